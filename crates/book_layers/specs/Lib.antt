@@ -1,0 +1,4 @@
+pub mod Pairs
+pub mod Bars
+pub mod Surcharges
+pub mod Piles

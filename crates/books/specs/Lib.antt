@@ -1,0 +1,5 @@
+pub mod Limits
+pub mod Table
+pub mod Fault
+pub mod Asked
+pub mod First

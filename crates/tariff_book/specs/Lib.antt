@@ -1,0 +1,6 @@
+pub mod Pieces
+pub mod Terms
+pub mod Duties
+pub mod Tariff
+pub mod Priced
+pub mod Meaning
