@@ -9,7 +9,7 @@ use Rattle.std.specs.declared.option.Option.{Option}
 use Rattle.std.specs.declared.option.Option.the-variants.{Some, None}
 use Rattle.books.specs.declared.fault.BookFault.{BookFault}
 use Rattle.books.specs.declared.fault.BookFault.the-variants.{TooManyPieces, TooManyLines, LineOutside, LineOrder, CostTooHigh, AmountTooHigh, TermOutside, RecordOutside, PieceOutside, EqualPieces, BarsFull, NoMemory}
-use Rattle.books.specs.First.{or-else}
+use Rattle.ranges.specs.First.{or-else}
 use Rattle.books.specs.Asked.{First-outside}
 use Rattle.books.specs.Table.{Table}
 use Rattle.book_layers.specs.declared.pair.Pair.{Pair}

@@ -2,4 +2,3 @@ pub mod Limits
 pub mod Table
 pub mod Fault
 pub mod Asked
-pub mod First

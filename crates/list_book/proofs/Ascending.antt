@@ -11,8 +11,8 @@ use Rattle.std.proofs.shelf.Ways.{tells}
 use Rattle.std.proofs.shelf.Tests.{cases-bool, cases-eq, cases-lt, both-ways}
 use Rattle.std.specs.declared.option.Option.{Option}
 use Rattle.std.specs.declared.option.Option.the-variants.{Some, None}
-use Rattle.books.specs.First.{first-of}
-use Rattle.books.proofs.First.{first-absent, first-found}
+use Rattle.ranges.specs.First.{first-of}
+use Rattle.ranges.proofs.First.{first-absent, first-found}
 use Rattle.list_book.specs.declared.line.Line.{Line}
 use Rattle.list_book.specs.Lines.{line, precedes, cost-on, line-cost}
 use Rattle.list_book.specs.Listed.{Rising, Parted}

@@ -14,17 +14,12 @@ use Rattle.std.specs.declared.option.Option.the-variants.{Some, None}
 use Rattle.books.specs.declared.fault.BookFault.{BookFault}
 use Rattle.books.specs.declared.fault.BookFault.the-variants.{TooManyPieces, TooManyLines, LineOutside, LineOrder, CostTooHigh}
 use Rattle.books.specs.Limits.{most-pieces, most-cost}
-use Rattle.books.proofs.First.{first-is}
+use Rattle.ranges.proofs.Options.{none-some, same-some}
+use Rattle.ranges.proofs.First.{first-is}
 use Rattle.list_book.specs.declared.line.Line.{Line}
 use Rattle.list_book.specs.Lines.{most-lines, line, precedes, rises, before, fault-at, lines-fault, list-fault}
 use Rattle.list_book.specs.Listed.{Within, Above-last, Lowest, Blamed}
 use Rattle.list_book.proofs.Lawful.{last-yes, good-at}
-
-same-fault : (a b : BookFault) → Some a ≡ Some b → a ≡ b
-same-fault a b e = cc
-
-nothing : (f : BookFault) → None ≡ Some f → ⊥
-nothing f e = let z : _≡_ {A = ℕ} 0 1 = cc in omega arith
 
 -- the line's own tests, by what they answer
 within-no : (n : ℕ) (l : Line) → (ltb (l .lower) (l .higher) && ltb (l .higher) n) ≡ false → (l .lower < l .higher) × (l .higher < n) → ⊥
@@ -40,11 +35,11 @@ last-no ls (suc m) e up = both-ways (rises (before ls (suc m)) (line ls (suc m))
 blamed-line : (n : ℕ) (ls : List Line) (k : ℕ) (f : BookFault) → Lowest n ls (k + 1) k → (a b c : Bool)
     → (ltb (line ls k .lower) (line ls k .higher) && ltb (line ls k .higher) n) ≡ a → rises (before ls k) (line ls k) ≡ b → leb (line ls k .cost) most-cost ≡ c
     → cond a (cond b (cond c None (Some (CostTooHigh (k + 1)))) (Some (LineOrder (k + 1)))) (Some (LineOutside (k + 1))) ≡ Some f → Blamed n ls f
-blamed-line n ls k f low false b c p q r e = subst (Blamed n ls) (same-fault (LineOutside (k + 1)) f e) (k, low, within-no n (line ls k) p)
-blamed-line n ls k f low true false c p q r e = subst (Blamed n ls) (same-fault (LineOrder (k + 1)) f e) (k, low, within-yes n (line ls k) p, last-no ls k q)
+blamed-line n ls k f low false b c p q r e = subst (Blamed n ls) (same-some (LineOutside (k + 1)) f e) (k, low, within-no n (line ls k) p)
+blamed-line n ls k f low true false c p q r e = subst (Blamed n ls) (same-some (LineOrder (k + 1)) f e) (k, low, within-yes n (line ls k) p, last-no ls k q)
 blamed-line n ls k f low true true false p q r e =
-    subst (Blamed n ls) (same-fault (CostTooHigh (k + 1)) f e) (k, low, within-yes n (line ls k) p, last-yes ls k q, leb-false (line ls k .cost) most-cost r)
-blamed-line n ls k f low true true true p q r e = absurd (nothing f e)
+    subst (Blamed n ls) (same-some (CostTooHigh (k + 1)) f e) (k, low, within-yes n (line ls k) p, last-yes ls k q, leb-false (line ls k .cost) most-cost r)
+blamed-line n ls k f low true true true p q r e = absurd (none-some None f refl e)
 
 blamed-lines : (n : ℕ) (ls : List Line) (f : BookFault) → n ≤ most-pieces → length ls ≤ most-lines → lines-fault n ls ≡ Some f → Blamed n ls f
 blamed-lines n ls f few short e =
@@ -54,8 +49,8 @@ blamed-lines n ls f few short e =
     blamed-line n ls k f low (ltb (line ls k .lower) (line ls k .higher) && ltb (line ls k .higher) n) (rises (before ls k) (line ls k)) (leb (line ls k .cost) most-cost) refl refl refl (r .2)
 
 by-sizes : (n : ℕ) (ls : List Line) (f : BookFault) (a b : Bool) → leb n most-pieces ≡ a → leb (length ls) most-lines ≡ b → cond a (cond b (lines-fault n ls) (Some TooManyLines)) (Some TooManyPieces) ≡ Some f → Blamed n ls f
-by-sizes n ls f false b p q e = subst (Blamed n ls) (same-fault TooManyPieces f e) (leb-false n most-pieces p)
-by-sizes n ls f true false p q e = subst (Blamed n ls) (same-fault TooManyLines f e) (leb-true n most-pieces p, leb-false (length ls) most-lines q)
+by-sizes n ls f false b p q e = subst (Blamed n ls) (same-some TooManyPieces f e) (leb-false n most-pieces p)
+by-sizes n ls f true false p q e = subst (Blamed n ls) (same-some TooManyLines f e) (leb-true n most-pieces p, leb-false (length ls) most-lines q)
 by-sizes n ls f true true p q e = blamed-lines n ls f (leb-true n most-pieces p) (leb-true (length ls) most-lines q) e
 
 pub list-blamed : (n : ℕ) (ls : List Line) (f : BookFault) → list-fault n ls ≡ Some f → Blamed n ls f

@@ -15,21 +15,18 @@ use Rattle.std.specs.declared.option.Option.{Option}
 use Rattle.std.specs.declared.option.Option.the-variants.{Some, None}
 use Rattle.books.specs.declared.fault.BookFault.{BookFault}
 use Rattle.books.specs.Limits.{most-pieces, most-cost}
-use Rattle.books.specs.First.{first-of}
+use Rattle.ranges.specs.First.{first-of}
 use Rattle.books.specs.Table.{Table, Sound}
-use Rattle.books.proofs.First.{first-none, first-absent, first-found, first-is}
+use Rattle.ranges.proofs.Options.{none-is, none-unless, none-some}
+use Rattle.ranges.proofs.First.{first-none, first-absent, first-found, first-is}
 use Rattle.list_book.specs.declared.line.Line.{Line}
 use Rattle.list_book.specs.Lines.{most-lines, line-of, line, cost-on, line-cost, list-table, precedes, rises, before, line-fault, fault-at, lines-fault, list-fault}
 use Rattle.list_book.specs.Listed.{On-line, Rising, Within, Above-last, Priced, Good, Lists}
 use Rattle.list_book.proofs.Ascending.{precedes-on, precedes-off}
 
-none-of : {X : Type 0} (o : Option X) → isSome o ≡ false → o ≡ None
-none-of None e = refl
-none-of (Some x) e = let z : _≡_ {A = ℕ} 0 1 = cc in absurd (omega arith)
-
 -- a list without a fault has few pieces, few lines, and no faulty line
 pub list-parts : (n : ℕ) (ls : List Line) → isSome (list-fault n ls) ≡ false → (n ≤ most-pieces) × (length ls ≤ most-lines) × (lines-fault n ls ≡ None)
-list-parts n ls e = (grind (arith, tells), grind (arith, tells), none-of (lines-fault n ls) (grind (arith, tells)))
+list-parts n ls e = (grind (arith, tells), grind (arith, tells), none-is (lines-fault n ls) (grind (arith, tells)))
 
 line-good : (n number : ℕ) (b : Option Line) (l : Line) → line-fault n number b l ≡ None → (l .lower < l .higher) × (l .higher < n) × (rises b l ≡ true) × (l .cost ≤ most-cost)
 line-good n number b l e = (grind (arith, tells), grind (arith, tells), grind (arith, tells), grind (arith, tells))
@@ -80,13 +77,6 @@ found ls i j c up o =
     let off : (m : ℕ) → m < k → cost-on (line ls m) i j ≡ None = λ m h. precedes-off (line ls m) i j (ap (λ l. precedes (line ls m) (l .lower) (l .higher)) (sym (o .2)) ∙ up m k h (o .1)) in
     first-found (λ m. cost-on (line ls m) i j) k (length ls) c (o .1) (first-absent (λ m. cost-on (line ls m) i j) k off) at
 
-none-unless : (o : Option ℕ) → ((c : ℕ) → o ≡ Some c → ⊥) → o ≡ None
-none-unless None h = refl
-none-unless (Some c) h = absurd (h c refl)
-
-apart : (o : Option ℕ) (c : ℕ) → o ≡ None → o ≡ Some c → ⊥
-apart o c p q = let z : _≡_ {A = ℕ} 0 1 = cc in omega arith
-
 -- the pieces and the cost of a line within its limits
 line-limits : (n : ℕ) (ls : List Line) (i j c : ℕ) → isSome (list-fault n ls) ≡ false → line-cost ls i j ≡ Some c → (i < j) × (j < n) × (c ≤ most-cost)
 line-limits n ls i j c e f =
@@ -115,7 +105,7 @@ list-answers n ls e =
       count = refl;
       costs = λ i j c. (on-line ls (min i j) (max i j) c, found ls (min i j) (max i j) c up);
       bars = λ i j. (
-        λ h c o. apart (line-cost ls (min i j) (max i j)) c h (found ls (min i j) (max i j) c up o),
+        λ h c o. none-some (line-cost ls (min i j) (max i j)) c h (found ls (min i j) (max i j) c up o),
         λ h. none-unless (line-cost ls (min i j) (max i j)) (λ c p. h c (on-line ls (min i j) (max i j) c p)),
       );
     }

@@ -9,7 +9,7 @@ use Rattle.std.specs.declared.option.Option.the-variants.{Some, None}
 use Rattle.books.specs.declared.fault.BookFault.{BookFault}
 use Rattle.books.specs.declared.fault.BookFault.the-variants.{TooManyPieces, TooManyLines, LineOutside, LineOrder, CostTooHigh}
 use Rattle.books.specs.Limits.{most-pieces, most-cost}
-use Rattle.books.specs.First.{first-of}
+use Rattle.ranges.specs.First.{first-of}
 use Rattle.books.specs.Table.{Table}
 use Rattle.list_book.specs.declared.line.Line.{Line}
 

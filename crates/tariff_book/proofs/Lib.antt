@@ -1,0 +1,3 @@
+pub mod Within
+pub mod Costing
+pub mod Pricing

@@ -9,7 +9,7 @@ use Rattle.std.specs.declared.option.Option.the-variants.{Some, None}
 use Rattle.books.specs.declared.fault.BookFault.{BookFault}
 use Rattle.books.specs.declared.fault.BookFault.the-variants.{TooManyPieces}
 use Rattle.books.specs.Limits.{most-pieces}
-use Rattle.books.specs.First.{or-else, first-of}
+use Rattle.ranges.specs.First.{or-else, first-of}
 use Rattle.books.specs.Table.{Table}
 use Rattle.tariff_book.specs.declared.piece.Piece.{Piece}
 use Rattle.tariff_book.specs.declared.terms.Terms.{Terms}

@@ -6,7 +6,7 @@ use Rattle.std.specs.declared.option.Option.{Option}
 use Rattle.std.specs.declared.option.Option.the-variants.{Some, None}
 use Rattle.books.specs.declared.fault.BookFault.{BookFault}
 use Rattle.books.specs.declared.fault.BookFault.the-variants.{TermOutside}
-use Rattle.books.specs.First.{first-of}
+use Rattle.ranges.specs.First.{first-of}
 use Rattle.tariff_book.specs.declared.terms.Terms.{Terms}
 
 abbrev pub term-count : ℕ

@@ -5,7 +5,7 @@ ghost use lib.ListN.{length};
 ghost use Rattle.std.specs.Of.Vec.{vec-items};
 ghost use Rattle.std.specs.Results.{errPart, isOk, Cases};
 ghost use Rattle.books.specs.Table.{no-table};
-ghost use Rattle.books.specs.First.{first-of};
+ghost use Rattle.ranges.specs.First.{first-of};
 ghost use Rattle.list_book.specs.Lines.{lines-fault, list-fault, list-table};
 ghost use Rattle.list_book.specs.Listed.{Lists, Blamed};
 ghost use Rattle.list_book.specs.Meaning.{list-means};

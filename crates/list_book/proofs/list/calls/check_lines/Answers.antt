@@ -4,8 +4,8 @@ use native.Mathlib.Numerals.{add-one}
 use native.Mathlib.Omega.{arith}
 use lib.ListN.{length}
 use Rattle.std.proofs.shelf.Results.{err-from-errBy}
-use Rattle.books.specs.First.{first-of}
-use Rattle.books.proofs.First.{first-found, first-more}
+use Rattle.ranges.specs.First.{first-of}
+use Rattle.ranges.proofs.First.{first-found, first-more}
 use Rattle.list_book.specs.Lines.{line, before, line-fault, fault-at}
 use Rattle.list_book.proofs.list.calls.check_lines.Needs as need
 

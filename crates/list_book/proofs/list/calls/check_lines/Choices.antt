@@ -1,6 +1,6 @@
 use mathlib.Core.Path.{_≡_}
 use Rattle.std.specs.declared.option.Option.the-variants.{None}
-use Rattle.books.specs.First.{first-of}
+use Rattle.ranges.specs.First.{first-of}
 use Rattle.list_book.specs.Lines.{before, fault-at}
 use Rattle.list_book.proofs.list.calls.check_lines.Given as given
 

@@ -4,11 +4,11 @@ use mathlib.Core.Logic.{⊎-elim}
 use Prim.Native.Nat.{ℕ, zero, suc, _+_, _-_, _<_, _≤_}
 use native.Mathlib.Numerals.{add-one}
 use native.Mathlib.Omega.{arith}
-use borrow.Author.Count.{below-more}
 use Rattle.std.proofs.shelf.Tests.{cases-eq}
 use Rattle.std.specs.declared.option.Option.{Option}
 use Rattle.std.specs.declared.option.Option.the-variants.{Some, None}
-use Rattle.books.specs.First.{or-else, first-of, Is-first}
+use Rattle.ranges.specs.First.{or-else, first-of, Is-first}
+use Rattle.ranges.proofs.Options.{none-some}
 
 -- one more that is not there
 pub first-more : {X : Type 0} (f : ℕ → Option X) (k : ℕ) → first-of f k ≡ None → f k ≡ None → first-of f (k + 1) ≡ None
@@ -32,12 +32,9 @@ first-stays f k n x h e = let s : n ≡ (n - k) + k = omega arith in ap (first-o
 pub first-found : {X : Type 0} (f : ℕ → Option X) (k n : ℕ) (x : X) → k < n → first-of f k ≡ None → f k ≡ Some x → first-of f n ≡ Some x
 first-found f k n x h a b = first-stays f (k + 1) n x (omega arith) (first-here f k x a b)
 
-some-none : {X : Type 0} (x : X) → Some x ≡ None → ⊥
-some-none x e = let z : _≡_ {A = ℕ} 0 1 = cc in omega arith
-
 both-none : {X : Type 0} (a b : Option X) → or-else a b ≡ None → (a ≡ None) × (b ≡ None)
 both-none None b e = (refl, e)
-both-none (Some x) b e = absurd (some-none x e)
+both-none (Some x) b e = absurd (none-some (Some x) x e refl)
 
 -- what none says of each
 pub first-none : {X : Type 0} (f : ℕ → Option X) (n : ℕ) → first-of f n ≡ None → (k : ℕ) → k < n → f k ≡ None
@@ -57,5 +54,5 @@ is-by f n x (Some y) before p e = let r = before (p ∙ e) in (r .0, omega (arit
 
 -- what one that is found says
 pub first-is : {X : Type 0} (f : ℕ → Option X) (n : ℕ) (x : X) → first-of f n ≡ Some x → Is-first f n x
-first-is f zero x e = absurd (some-none x (sym e))
+first-is f zero x e = absurd (none-some None x refl e)
 first-is f (suc n) x e = is-by f n x (first-of f n) (first-is f n x) refl e
