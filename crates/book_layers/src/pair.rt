@@ -15,7 +15,7 @@ pub struct Pair {
 }
 
 // Two pieces in their order.
-pub fn pair_of(i: usize, j: usize) -> Pair
+pub(crate) fn pair_of(i: usize, j: usize) -> Pair
     ensures { λ r. ⌜ r ≡ pair-of i j ⌝ }
 {
     Pair {
@@ -25,7 +25,7 @@ pub fn pair_of(i: usize, j: usize) -> Pair
 }
 
 // The place at which a row holds two pieces, in either order.
-pub fn position(pairs: &[Pair], i: usize, j: usize) -> Option<usize>
+pub(crate) fn position(pairs: &[Pair], i: usize, j: usize) -> Option<usize>
     ensures { λ r. ⌜ Cases r (held (now (pairs .entry)) i j ≡ false)
         (λ k. (k < length (now (pairs .entry))) × (is-pair (pair-at (now (pairs .entry)) k) i j ≡ true) × (held (now (pairs .entry)) i j ≡ true)) ⌝ }
 {
@@ -39,7 +39,7 @@ pub fn position(pairs: &[Pair], i: usize, j: usize) -> Option<usize>
 }
 
 // The fault of two pieces that are to be barred or lifted, in a book of `count` pieces.
-pub fn check_pair(count: usize, i: usize, j: usize) -> Result<(), BookFault>
+pub(crate) fn check_pair(count: usize, i: usize, j: usize) -> Result<(), BookFault>
     ensures { λ r. ⌜ errPart r ≡ pair-fault count i j ⌝ }
 {
     if i >= count {

@@ -12,7 +12,7 @@ use Rattle.std.specs.declared.result.Result.the-variants.{Ok, Err}
 use Rattle.books.specs.declared.fault.BookFault.{BookFault}
 use Rattle.books.specs.declared.fault.BookFault.the-variants.{PieceOutside}
 use Rattle.books.specs.Table.{Table, Sound}
-use Rattle.books.specs.Asked.{answer-or, outside-fault, asked, Question-law}
+use Rattle.books.specs.Asked.{answer-or, outside-fault, asked, Question-law, Answers-by-law}
 
 by-tests : (t : Table) (i j : ℕ) → Sound t → (a b : Bool) → ltb i (t .count) ≡ a → ltb j (t .count) ≡ b → Question-law t i j (answer-or (cond a (cond b None (Some (PieceOutside j))) (Some (PieceOutside i))) (t .cost i j))
 by-tests t i j s true true p q =
@@ -21,5 +21,8 @@ by-tests t i j s true true p q =
 by-tests t i j s true false p q = (j, refl, inr (ltb-true i (t .count) p, ltb-false j (t .count) q, refl))
 by-tests t i j s false b p q = (i, refl, inl (ltb-false i (t .count) p, refl))
 
-pub question-law : (t : Table) (i j : ℕ) → Sound t → Question-law t i j (asked t i j)
+question-law : (t : Table) (i j : ℕ) → Sound t → Question-law t i j (asked t i j)
 question-law t i j s = by-tests t i j s (ltb i (t .count)) (ltb j (t .count)) refl refl
+
+pub answers-by-law : (t : Table) (i j : ℕ) → Sound t → Answers-by-law t i j
+answers-by-law t i j s r e = subst (Question-law t i j) (sym e) (question-law t i j s)

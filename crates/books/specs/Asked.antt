@@ -34,3 +34,7 @@ abbrev pub Question-law : Table → ℕ → ℕ → Result (Option ℕ) BookFaul
 Question-law t i j (Ok c) =
     (i < t .count) × (j < t .count) × (asked t j i ≡ Ok c) × (i ≡ j → c ≡ None) × ((p : ℕ) → c ≡ Some p → p ≤ most-cost)
 Question-law t i j (Err f) = (p : ℕ) × (f ≡ PieceOutside p) × First-outside (t .count) i j p
+
+-- whatever is asked and answered keeps the law
+abbrev pub Answers-by-law : Table → ℕ → ℕ → Type 0
+Answers-by-law t i j = (r : Result (Option ℕ) BookFault) → r ≡ asked t i j → Question-law t i j r

@@ -9,8 +9,10 @@ use lib.Dec.{ltb, leb}
 use lib.ListN.{length}
 use Rattle.std.proofs.shelf.Ways.{tells}
 use Rattle.std.proofs.shelf.Tests.{leb-true, leb-false, both-ways}
+use Rattle.std.specs.Options.{isSome}
 use Rattle.std.specs.declared.option.Option.{Option}
 use Rattle.std.specs.declared.option.Option.the-variants.{Some, None}
+use Rattle.std.specs.declared.result.Result.the-variants.{Ok, Err}
 use Rattle.books.specs.declared.fault.BookFault.{BookFault}
 use Rattle.books.specs.declared.fault.BookFault.the-variants.{TooManyPieces, TooManyLines, LineOutside, LineOrder, CostTooHigh}
 use Rattle.books.specs.Limits.{most-pieces, most-cost}
@@ -18,8 +20,8 @@ use Rattle.ranges.proofs.Options.{none-some, same-some}
 use Rattle.ranges.proofs.First.{first-is}
 use Rattle.list_book.specs.declared.line.Line.{Line}
 use Rattle.list_book.specs.Lines.{most-lines, line, precedes, rises, before, fault-at, lines-fault, list-fault}
-use Rattle.list_book.specs.Listed.{Within, Above-last, Lowest, Blamed}
-use Rattle.list_book.proofs.Lawful.{last-yes, good-at}
+use Rattle.list_book.specs.Listed.{Within, Above-last, Lowest, Blamed, Taken-by-law}
+use Rattle.list_book.proofs.Lawful.{last-yes, good-at, list-answers}
 
 -- the line's own tests, by what they answer
 within-no : (n : ℕ) (l : Line) → (ltb (l .lower) (l .higher) && ltb (l .higher) n) ≡ false → (l .lower < l .higher) × (l .higher < n) → ⊥
@@ -55,3 +57,7 @@ by-sizes n ls f true true p q e = blamed-lines n ls f (leb-true n most-pieces p)
 
 pub list-blamed : (n : ℕ) (ls : List Line) (f : BookFault) → list-fault n ls ≡ Some f → Blamed n ls f
 list-blamed n ls f e = by-sizes n ls f (leb n most-pieces) (leb (length ls) most-lines) refl refl e
+
+pub taken-by-law : (n : ℕ) (ls : List Line) → Taken-by-law n ls
+taken-by-law n ls (Ok x) e = list-answers n ls (ap isSome (sym e))
+taken-by-law n ls (Err f) e = list-blamed n ls f (sym e)

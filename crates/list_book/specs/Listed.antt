@@ -4,13 +4,15 @@ use mathlib.Core.Bool.{Bool, true, false}
 use mathlib.Core.List.{List}
 use Prim.Native.Nat.{ℕ, _+_, _<_, _≤_, min, max}
 use lib.ListN.{length}
+use Rattle.std.specs.Results.{errPart, Cases}
 use Rattle.std.specs.declared.option.Option.the-variants.{Some, None}
+use Rattle.std.specs.declared.result.Result.{Result}
 use Rattle.books.specs.declared.fault.BookFault.{BookFault}
 use Rattle.books.specs.declared.fault.BookFault.the-variants.{TooManyPieces, TooManyLines, LineOutside, LineOrder, CostTooHigh, AmountTooHigh, TermOutside, RecordOutside, PieceOutside, EqualPieces, BarsFull, NoMemory}
 use Rattle.books.specs.Limits.{most-pieces, most-cost}
 use Rattle.books.specs.Table.{Table}
 use Rattle.list_book.specs.declared.line.Line.{Line}
-use Rattle.list_book.specs.Lines.{most-lines, line-of, line, precedes}
+use Rattle.list_book.specs.Lines.{most-lines, line-of, line, precedes, list-table, list-fault}
 
 -- one of the lines has these pieces and this cost
 abbrev pub On-line : List Line → ℕ → ℕ → ℕ → Type 0
@@ -70,3 +72,7 @@ Blamed n ls (PieceOutside k) = ⊥
 Blamed n ls (EqualPieces k) = ⊥
 Blamed n ls BarsFull = ⊥
 Blamed n ls NoMemory = ⊥
+
+-- a list is taken where it is lawful, and refused where its fault is to blame
+abbrev pub Taken-by-law : ℕ → List Line → Type 0
+Taken-by-law n ls = (r : Result (Unit {0}) BookFault) → errPart r ≡ list-fault n ls → Cases r (λ _. Lists (list-table n ls) n ls) (λ f. Blamed n ls f)

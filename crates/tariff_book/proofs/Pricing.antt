@@ -12,7 +12,7 @@ use Rattle.std.proofs.shelf.Tests.{leb-true, leb-false}
 use Rattle.std.proofs.shelf.Ways.{tells}
 use Rattle.std.specs.declared.option.Option.{Option}
 use Rattle.std.specs.declared.option.Option.the-variants.{Some, None}
-use Rattle.std.specs.declared.result.Result.the-variants.{Ok}
+use Rattle.std.specs.declared.result.Result.the-variants.{Ok, Err}
 use Rattle.books.specs.declared.fault.BookFault.{BookFault}
 use Rattle.books.specs.declared.fault.BookFault.the-variants.{TooManyPieces}
 use Rattle.books.specs.Limits.{most-pieces}
@@ -27,7 +27,7 @@ use Rattle.tariff_book.specs.Pieces.{piece-fault}
 use Rattle.tariff_book.specs.Terms.{term-count, term-fault, terms-fault}
 use Rattle.tariff_book.specs.Duties.{pieces-cost, Duty-of}
 use Rattle.tariff_book.specs.Tariff.{piece, pieces-fault, tariff-fault, tariff-table}
-use Rattle.tariff_book.specs.Priced.{Prices, Blamed}
+use Rattle.tariff_book.specs.Priced.{Prices, Blamed, Taken-by-law}
 use Rattle.tariff_book.proofs.Within.{term-good, term-bad, piece-good, piece-bad, terms-good, pieces-good, no-fault}
 use Rattle.tariff_book.proofs.Costing.{either-order, equal-starts, pieces-duty, duty-pieces, pieces-low}
 
@@ -71,7 +71,7 @@ table-duty t ps e i j c p q h =
 duty-table : (t : Terms) (ps : List Piece) (i j c : ℕ) → i < length ps → j < length ps → Duty-of t (piece ps i) (piece ps j) c → tariff-table t ps .cost i j ≡ Some c
 duty-table t ps i j c p q d = inside (length ps) i j _ p q ∙ duty-pieces t (piece ps i) (piece ps j) c d
 
-pub tariff-prices : (t : Terms) (ps : List Piece) → isSome (tariff-fault t ps) ≡ false → Prices (tariff-table t ps) t ps
+tariff-prices : (t : Terms) (ps : List Piece) → isSome (tariff-fault t ps) ≡ false → Prices (tariff-table t ps) t ps
 tariff-prices t ps e =
     let held = no-fault t ps e in
     record {
@@ -102,5 +102,9 @@ by-parts t ps f true (Some g) few terms e = terms-blamed t ps f (leb-true (lengt
 by-parts t ps f true None few terms e = pieces-blamed t ps f (leb-true (length ps) most-pieces few) (ap isSome terms) e
 by-parts t ps f false o few terms e = let is : TooManyPieces ≡ f = cc in subst (Blamed t ps) is (leb-false (length ps) most-pieces few)
 
-pub tariff-blamed : (t : Terms) (ps : List Piece) (f : BookFault) → tariff-fault t ps ≡ Some f → Blamed t ps f
+tariff-blamed : (t : Terms) (ps : List Piece) (f : BookFault) → tariff-fault t ps ≡ Some f → Blamed t ps f
 tariff-blamed t ps f e = by-parts t ps f (leb (length ps) most-pieces) (terms-fault t) refl refl e
+
+pub taken-by-law : (t : Terms) (ps : List Piece) → Taken-by-law t ps
+taken-by-law t ps (Ok x) e = tariff-prices t ps (ap isSome (sym e))
+taken-by-law t ps (Err f) e = tariff-blamed t ps f (sym e)

@@ -3,7 +3,9 @@ use mathlib.Core.Path.{_≡_}
 use mathlib.Core.List.{List}
 use Prim.Native.Nat.{ℕ, _+_, _<_, _≤_}
 use lib.ListN.{length}
+use Rattle.std.specs.Results.{errPart, Cases}
 use Rattle.std.specs.declared.option.Option.the-variants.{Some, None}
+use Rattle.std.specs.declared.result.Result.{Result}
 use Rattle.books.specs.declared.fault.BookFault.{BookFault}
 use Rattle.books.specs.declared.fault.BookFault.the-variants.{TooManyPieces, TooManyLines, LineOutside, LineOrder, CostTooHigh, AmountTooHigh, TermOutside, RecordOutside, PieceOutside, EqualPieces, BarsFull, NoMemory}
 use Rattle.books.specs.Limits.{most-pieces}
@@ -13,7 +15,7 @@ use Rattle.tariff_book.specs.declared.terms.Terms.{Terms}
 use Rattle.tariff_book.specs.Pieces.{Good-piece}
 use Rattle.tariff_book.specs.Terms.{term-count, Good-term}
 use Rattle.tariff_book.specs.Duties.{Duty-of}
-use Rattle.tariff_book.specs.Tariff.{piece}
+use Rattle.tariff_book.specs.Tariff.{piece, tariff-table, tariff-fault}
 
 -- what a loaded tariff is: within all limits; two pieces cost c exactly when they are a duty of that cost by gap and spread, and are barred
 -- exactly when they are none
@@ -45,3 +47,7 @@ Blamed t ps (PieceOutside k) = ⊥
 Blamed t ps (EqualPieces k) = ⊥
 Blamed t ps BarsFull = ⊥
 Blamed t ps NoMemory = ⊥
+
+-- a tariff is taken where it is lawful, and refused where its fault is to blame
+abbrev pub Taken-by-law : Terms → List Piece → Type 0
+Taken-by-law t ps = (r : Result (Unit {0}) BookFault) → errPart r ≡ tariff-fault t ps → Cases r (λ _. Prices (tariff-table t ps) t ps) (λ f. Blamed t ps f)

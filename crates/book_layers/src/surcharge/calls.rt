@@ -25,8 +25,7 @@ fn ends_marked(marks: &[bool; MARKS], i: usize, j: usize) -> u32
 impl<B: CostBook> SurchargeLayer<B> {
     // A layer of amount 0 that marks no piece.
     pub fn new(below: B) -> Self
-        ensures parts { λ r. ⌜ (r .below ≡ below) × (r .amount ≡ 0) × (r .marks ≡ replicate 256 false) ⌝ }
-        ensures law { λ r. ⌜ Surcharges (surcharged (B·CostBook .means (r .below)) (r .amount) (r .marks)) (B·CostBook .means (r .below)) (r .amount) (r .marks) ⌝ }
+        ensures { λ r. ⌜ (r .below ≡ below) × (r .amount ≡ 0) × (r .marks ≡ replicate 256 false) ⌝ }
     {
         SurchargeLayer {
             below,
@@ -40,7 +39,6 @@ impl<B: CostBook> SurchargeLayer<B> {
         ensures refuses { λ r. ⌜ errPart r ≡ amount-fault amount ⌝ }
         ensures amount { λ r. ⌜ now (self .exit) .amount ≡ cond (isOk r) amount (now (self .entry) .amount) ⌝ }
         ensures same { λ _. ⌜ (now (self .exit) .below ≡ now (self .entry) .below) × (now (self .exit) .marks ≡ now (self .entry) .marks) ⌝ }
-        ensures law { λ _. ⌜ Surcharges (surcharged (B·CostBook .means (now (self .exit) .below)) (now (self .exit) .amount) (now (self .exit) .marks)) (B·CostBook .means (now (self .exit) .below)) (now (self .exit) .amount) (now (self .exit) .marks) ⌝ }
     {
         if amount > MOST_COST {
             return Err(BookFault::AmountTooHigh);
@@ -54,6 +52,8 @@ impl<B: CostBook> SurchargeLayer<B> {
         ensures refuses { λ r. ⌜ errPart r ≡ mark-fault (B·CostBook .means (now (self .entry) .below) .count) piece ⌝ }
         ensures marks { λ r. ⌜ now (self .exit) .marks ≡ cond (isOk r) (set (now (self .entry) .marks) piece mark) (now (self .entry) .marks) ⌝ }
         ensures same { λ _. ⌜ (now (self .exit) .below ≡ now (self .entry) .below) × (now (self .exit) .amount ≡ now (self .entry) .amount) ⌝ }
+        ensures law { λ _. ⌜ Surcharges (surcharged (B·CostBook .means (now (self .exit) .below)) (now (self .exit) .amount) (now (self .exit) .marks)) (B·CostBook .means (now (self .exit) .below)) (now (self .exit) .amount) (now (self .exit) .marks) ⌝ }
+        ensures only { λ _. ⌜ Piece-only (surcharged (B·CostBook .means (now (self .entry) .below)) (now (self .entry) .amount) (now (self .entry) .marks)) (surcharged (B·CostBook .means (now (self .exit) .below)) (now (self .exit) .amount) (now (self .exit) .marks)) piece ⌝ }
     {
         if piece >= self.below.count() {
             return Err(BookFault::PieceOutside(piece));

@@ -7,7 +7,7 @@ ghost use Rattle.std.specs.Results.{errPart, isOk, Cases};
 ghost use Rattle.books.specs.Table.{no-table};
 ghost use Rattle.ranges.specs.First.{first-of};
 ghost use Rattle.list_book.specs.Lines.{lines-fault, list-fault, list-table};
-ghost use Rattle.list_book.specs.Listed.{Lists, Blamed};
+ghost use Rattle.list_book.specs.Listed.{Lists, Blamed, Taken-by-law};
 ghost use Rattle.list_book.specs.Meaning.{list-means};
 use super::ListBook;
 use super::find::find_cost;
@@ -42,6 +42,12 @@ fn check_list(count: usize, lines: &[Line]) -> Result<(), BookFault>
     check_lines(count, lines)
 }
 
+// That a list is taken or refused by the law of its lines.
+fn taken_by_law(count: usize, lines: &[Line])
+    ensures { λ _. ⌜ Taken-by-law count (now (lines .entry)) ⌝ }
+{
+}
+
 impl ListBook {
     // A list of no pieces.
     pub fn new(heap: Global) -> Self
@@ -59,6 +65,7 @@ impl ListBook {
         ensures means { λ r. ⌜ list-means (now (self .exit)) ≡ cond (isOk r) (list-table count (vec-items lines)) (list-means (now (self .entry))) ⌝ }
         ensures law { λ r. ⌜ Cases r (λ _. Lists (list-means (now (self .exit))) count (vec-items lines)) (λ f. Blamed count (vec-items lines) f) ⌝ }
     {
+        taken_by_law(count, &lines);
         check_list(count, &lines)?;
         self.count = count;
         self.lines = lines;

@@ -5,7 +5,7 @@ ghost use Rattle.std.specs.Of.Vec.{vec-items};
 ghost use Rattle.std.specs.Results.{errPart, isOk, Cases};
 ghost use Rattle.books.specs.Table.{no-table};
 ghost use Rattle.tariff_book.specs.Tariff.{pieces-fault, tariff-fault, tariff-table};
-ghost use Rattle.tariff_book.specs.Priced.{Prices, Blamed};
+ghost use Rattle.tariff_book.specs.Priced.{Prices, Blamed, Taken-by-law};
 ghost use Rattle.tariff_book.specs.Meaning.{tariff-means};
 use super::TariffBook;
 use super::duty::pieces_cost;
@@ -37,6 +37,12 @@ fn check_tariff(terms: Terms, pieces: &[Piece]) -> Result<(), BookFault>
     check_pieces(pieces)
 }
 
+// That a tariff is taken or refused by the law of its terms and records.
+fn taken_by_law(terms: Terms, pieces: &[Piece])
+    ensures { λ _. ⌜ Taken-by-law terms (now (pieces .entry)) ⌝ }
+{
+}
+
 impl TariffBook {
     // A tariff of no pieces.
     pub fn new(heap: Global) -> Self
@@ -59,6 +65,7 @@ impl TariffBook {
         ensures means { λ r. ⌜ tariff-means (now (self .exit)) ≡ cond (isOk r) (tariff-table terms (vec-items pieces)) (tariff-means (now (self .entry))) ⌝ }
         ensures law { λ r. ⌜ Cases r (λ _. Prices (tariff-means (now (self .exit))) terms (vec-items pieces)) (λ f. Blamed terms (vec-items pieces) f) ⌝ }
     {
+        taken_by_law(terms, &pieces);
         check_tariff(terms, &pieces)?;
         self.terms = terms;
         self.pieces = pieces;
