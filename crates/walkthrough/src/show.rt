@@ -19,7 +19,7 @@ fn kind_named(number: u8) -> &'static str {
     }
 }
 
-impl fmt::Display for Told as ToldDisplay {
+pub impl fmt::Display for Told as ToldDisplay {
     fn fmt<W: fmt::Write>(&self, f: &mut fmt::Formatter<W>) -> fmt::Result {
         let number = self.0.number;
         match self.0.added {
