@@ -46,15 +46,18 @@ fn a_bar_comes_and_goes(rt: LibcRuntime) -> Result<(), Fail> {
 #[test]
 fn pieces_outside_come_before_equal_ones(rt: LibcRuntime) -> Result<(), Fail> {
     let mut layer = layer_of(rt.alloc())?;
-    check_eq(refused(layer.bar(256, 0)), naming(8, 256))?;
-    check_eq(refused(layer.bar(0, 257)), naming(8, 257))?;
-    check_eq(refused(layer.bar(258, 257)), naming(8, 258))?;
-    check_eq(refused(layer.bar(256, 256)), naming(8, 256))?;
-    check_eq(refused(layer.bar(255, 255)), naming(9, 255))?;
-    check_eq(refused(layer.lift(256, 0)), naming(8, 256))?;
-    check_eq(refused(layer.lift(0, 257)), naming(8, 257))?;
-    check_eq(refused(layer.lift(256, 256)), naming(8, 256))?;
-    check_eq(refused(layer.lift(0, 0)), naming(9, 0))
+    let told = [
+        (256, 0, naming(8, 256)),
+        (0, 257, naming(8, 257)),
+        (258, 257, naming(8, 258)),
+        (256, 256, naming(8, 256)),
+        (255, 255, naming(9, 255)),
+    ];
+    for (i, j, refusal) in told {
+        check_eq(refused(layer.bar(i, j)), refusal)?;
+        check_eq(refused(layer.lift(i, j)), refusal)?;
+    }
+    Ok(())
 }
 
 #[test]

@@ -58,17 +58,23 @@ fn a_pair_has_the_cost_of_its_line(rt: LibcRuntime) -> Result<(), Fail> {
     let lines = [line(0, 1, 1), line(0, 2, 4), line(1, 3, 4), line(2, 3, 10)];
     check_eq(refused(book.load(4, Vec::from_slice(rt.alloc(), &lines)?)), None)?;
     check_eq(book.count(), 4)?;
-    check_eq(book.cost(0, 1), Ok(Some(1)))?;
-    check_eq(book.cost(1, 0), Ok(Some(1)))?;
-    check_eq(book.cost(0, 2), Ok(Some(4)))?;
-    check_eq(book.cost(3, 1), Ok(Some(4)))?;
-    check_eq(book.cost(2, 3), Ok(Some(10)))?;
-    check_eq(book.cost(0, 3), Ok(None))?;
-    check_eq(book.cost(1, 2), Ok(None))?;
-    check_eq(book.cost(3, 3), Ok(None))?;
-    check_eq(book.cost(4, 0), Err(BookFault::PieceOutside(4)))?;
-    check_eq(book.cost(0, 5), Err(BookFault::PieceOutside(5)))?;
-    check_eq(book.cost(6, 5), Err(BookFault::PieceOutside(6)))
+    let answers = [
+        (0, 1, Ok(Some(1))),
+        (1, 0, Ok(Some(1))),
+        (0, 2, Ok(Some(4))),
+        (3, 1, Ok(Some(4))),
+        (2, 3, Ok(Some(10))),
+        (0, 3, Ok(None)),
+        (1, 2, Ok(None)),
+        (3, 3, Ok(None)),
+        (4, 0, Err(BookFault::PieceOutside(4))),
+        (0, 5, Err(BookFault::PieceOutside(5))),
+        (6, 5, Err(BookFault::PieceOutside(6))),
+    ];
+    for (i, j, answer) in answers {
+        check_eq(book.cost(i, j), answer)?;
+    }
+    Ok(())
 }
 
 #[test]
@@ -89,26 +95,31 @@ fn pieces_and_lines_at_their_limits(rt: LibcRuntime) -> Result<(), Fail> {
 
 #[test]
 fn a_line_is_refused_with_its_number(rt: LibcRuntime) -> Result<(), Fail> {
-    let heap = rt.alloc();
-    check_eq(loaded(heap, 4, &[line(0, 1, 0), line(2, 2, 0)])?, naming(3, 2))?;
-    check_eq(loaded(heap, 4, &[line(2, 1, 0)])?, naming(3, 1))?;
-    check_eq(loaded(heap, 4, &[line(0, 1, 0), line(0, 4, 0)])?, naming(3, 2))?;
-    check_eq(loaded(heap, 4, &[line(0, 1, 0), line(0, 1, 0)])?, naming(4, 2))?;
-    check_eq(loaded(heap, 4, &[line(0, 2, 0), line(0, 1, 0)])?, naming(4, 2))?;
-    check_eq(loaded(heap, 4, &[line(1, 2, 0), line(0, 3, 0)])?, naming(4, 2))?;
-    check_eq(loaded(heap, 4, &[line(0, 1, 1_000_000)])?, None)?;
-    check_eq(loaded(heap, 4, &[line(0, 1, 1_000_001)])?, naming(5, 1))?;
-    check_eq(loaded(heap, 0, &[])?, None)?;
-    check_eq(loaded(heap, 0, &[line(0, 1, 0)])?, naming(3, 1))
+    let told = [
+        (line(0, 1, 0), line(2, 2, 0), naming(3, 2)),
+        (line(2, 1, 0), line(2, 3, 0), naming(3, 1)),
+        (line(0, 1, 0), line(0, 4, 0), naming(3, 2)),
+        (line(0, 1, 0), line(0, 1, 0), naming(4, 2)),
+        (line(0, 2, 0), line(0, 1, 0), naming(4, 2)),
+        (line(1, 2, 0), line(0, 3, 0), naming(4, 2)),
+        (line(0, 1, 0), line(0, 2, 1_000_000), None),
+        (line(0, 1, 0), line(0, 2, 1_000_001), naming(5, 2)),
+        // Of two faults: on one line the lowest number, of two lines the lowest.
+        (line(0, 1, 0), line(1, 0, 1_000_001), naming(3, 2)),
+        (line(0, 2, 0), line(0, 1, 1_000_001), naming(4, 2)),
+        (line(0, 1, 1_000_001), line(1, 0, 0), naming(5, 1)),
+    ];
+    for (first, second, refusal) in told {
+        check_eq(loaded(rt.alloc(), 4, &[first, second])?, refusal)?;
+    }
+    Ok(())
 }
 
 #[test]
-fn of_two_faults_the_first_is_told(rt: LibcRuntime) -> Result<(), Fail> {
+fn sizes_are_told_before_lines(rt: LibcRuntime) -> Result<(), Fail> {
     let heap = rt.alloc();
-    // On one line the lowest number, of several lines the lowest.
-    check_eq(loaded(heap, 4, &[line(0, 1, 0), line(1, 0, 1_000_001)])?, naming(3, 2))?;
-    check_eq(loaded(heap, 4, &[line(0, 2, 0), line(0, 1, 1_000_001)])?, naming(4, 2))?;
-    check_eq(loaded(heap, 4, &[line(0, 1, 1_000_001), line(1, 0, 0)])?, naming(5, 1))?;
+    check_eq(loaded(heap, 0, &[])?, None)?;
+    check_eq(loaded(heap, 0, &[line(0, 1, 0)])?, naming(3, 1))?;
     check_eq(loaded(heap, 257, &[line(1, 0, 0)])?, plain(1))?;
     let mut book = ListBook::new(heap);
     check_eq(refused(book.load(257, many_lines(heap, 4097)?)), plain(1))?;

@@ -49,52 +49,69 @@ fn loaded(heap: Global, terms: Terms, pieces: &[Piece]) -> Result<Option<Refusal
 
 #[test]
 fn worked_examples(rt: LibcRuntime) -> Result<(), Fail> {
-    let heap = rt.alloc();
     let agreed = terms(30, 720, 10, 500);
     let early = piece(360, 600, 1, 2);
-    check_eq(priced(heap, agreed, early, piece(840, 1080, 2, 1)), Ok(Some(2400)))?;
-    check_eq(priced(heap, agreed, early, piece(841, 1081, 2, 1)), Ok(None))?;
-    check_eq(priced(heap, agreed, early, piece(630, 900, 3, 1)), Ok(Some(800)))?;
-    check_eq(priced(heap, agreed, early, piece(629, 900, 3, 1)), Ok(None))?;
-    check_eq(priced(heap, agreed, piece(630, 900, 3, 1), early), Ok(Some(800)))
+    let answers = [
+        (piece(840, 1080, 2, 1), Ok(Some(2400))),
+        (piece(841, 1081, 2, 1), Ok(None)),
+        (piece(630, 900, 3, 1), Ok(Some(800))),
+        (piece(629, 900, 3, 1), Ok(None)),
+    ];
+    for (late, answer) in answers {
+        check_eq(priced(rt.alloc(), agreed, early, late), answer)?;
+        check_eq(priced(rt.alloc(), agreed, late, early), answer)?;
+    }
+    Ok(())
 }
 
 #[test]
 fn pieces_that_overlap_or_start_together_are_barred(rt: LibcRuntime) -> Result<(), Fail> {
-    let heap = rt.alloc();
-    let free = terms(0, 1440, 0, 0);
-    check_eq(priced(heap, free, piece(0, 10, 1, 1), piece(10, 20, 1, 1)), Ok(Some(0)))?;
-    check_eq(priced(heap, free, piece(0, 11, 1, 1), piece(10, 20, 1, 1)), Ok(None))?;
-    check_eq(priced(heap, free, piece(0, 30, 1, 1), piece(10, 20, 1, 1)), Ok(None))?;
-    check_eq(priced(heap, free, piece(5, 6, 1, 1), piece(5, 6, 1, 1)), Ok(None))?;
     // The longest gap at the highest rate, with the dearest move, stays below the greatest cost.
     let dear = terms(0, 1440, 100, 100_000);
-    check_eq(priced(heap, dear, piece(0, 1, 1, 1), piece(1439, 1440, 2, 1)), Ok(Some(243_800)))
+    let answers = [
+        (piece(0, 10, 1, 1), piece(10, 20, 1, 1), Ok(Some(0))),
+        (piece(0, 11, 1, 1), piece(10, 20, 1, 1), Ok(None)),
+        (piece(0, 30, 1, 1), piece(10, 20, 1, 1), Ok(None)),
+        (piece(5, 6, 1, 1), piece(5, 6, 1, 1), Ok(None)),
+        (piece(0, 1, 1, 1), piece(1439, 1440, 2, 1), Ok(Some(243_800))),
+    ];
+    for (one, other, answer) in answers {
+        check_eq(priced(rt.alloc(), dear, one, other), answer)?;
+    }
+    Ok(())
 }
 
 #[test]
 fn terms_at_their_limits(rt: LibcRuntime) -> Result<(), Fail> {
-    let heap = rt.alloc();
-    check_eq(loaded(heap, terms(240, 1440, 100, 100_000), &[])?, None)?;
-    check_eq(loaded(heap, terms(0, 1, 0, 0), &[])?, None)?;
-    check_eq(loaded(heap, terms(241, 1, 0, 0), &[])?, naming(6, 1))?;
-    check_eq(loaded(heap, terms(0, 0, 0, 0), &[])?, naming(6, 2))?;
-    check_eq(loaded(heap, terms(0, 1441, 0, 0), &[])?, naming(6, 2))?;
-    check_eq(loaded(heap, terms(0, 1, 101, 0), &[])?, naming(6, 3))?;
-    check_eq(loaded(heap, terms(0, 1, 0, 100_001), &[])?, naming(6, 4))?;
-    check_eq(loaded(heap, terms(0, 1, 101, 100_001), &[])?, naming(6, 3))
+    let told = [
+        (terms(240, 1440, 100, 100_000), None),
+        (terms(0, 1, 0, 0), None),
+        (terms(241, 1, 0, 0), naming(6, 1)),
+        (terms(0, 0, 0, 0), naming(6, 2)),
+        (terms(0, 1441, 0, 0), naming(6, 2)),
+        (terms(0, 1, 101, 0), naming(6, 3)),
+        (terms(0, 1, 0, 100_001), naming(6, 4)),
+        (terms(0, 1, 101, 100_001), naming(6, 3)),
+    ];
+    for (terms, refusal) in told {
+        check_eq(loaded(rt.alloc(), terms, &[])?, refusal)?;
+    }
+    Ok(())
 }
 
 #[test]
 fn records_at_their_limits(rt: LibcRuntime) -> Result<(), Fail> {
-    let heap = rt.alloc();
-    let agreed = terms(0, 1, 0, 0);
-    let good = piece(0, 1, 0, 0);
-    check_eq(loaded(heap, agreed, &[good, piece(2879, 2880, 65535, 65535)])?, None)?;
-    check_eq(loaded(heap, agreed, &[good, piece(2879, 2881, 0, 0)])?, naming(7, 1))?;
-    check_eq(loaded(heap, agreed, &[good, piece(2880, 2881, 0, 0)])?, naming(7, 1))?;
-    check_eq(loaded(heap, agreed, &[piece(7, 7, 0, 0), piece(8, 7, 0, 0)])?, naming(7, 0))?;
-    check_eq(loaded(heap, terms(0, 0, 0, 0), &[piece(7, 7, 0, 0)])?, naming(6, 2))
+    let told = [
+        (piece(0, 1, 0, 0), piece(2879, 2880, 65535, 65535), None),
+        (piece(0, 1, 0, 0), piece(2879, 2881, 0, 0), naming(7, 1)),
+        (piece(0, 1, 0, 0), piece(2880, 2881, 0, 0), naming(7, 1)),
+        (piece(7, 7, 0, 0), piece(8, 7, 0, 0), naming(7, 0)),
+    ];
+    for (one, other, refusal) in told {
+        check_eq(loaded(rt.alloc(), terms(0, 1, 0, 0), &[one, other])?, refusal)?;
+    }
+    // A faulty term is told before a faulty record.
+    check_eq(loaded(rt.alloc(), terms(0, 0, 0, 0), &[piece(7, 7, 0, 0)])?, naming(6, 2))
 }
 
 #[test]

@@ -81,7 +81,7 @@ pub impl CostBook for TariffBook as TariffCostBook {
     }
 
     fn cost(&self, i: usize, j: usize) -> Result<Option<u32>, BookFault> {
-        let count = self.pieces.len();
+        let count = self.count();
         if i >= count {
             return Err(BookFault::PieceOutside(i));
         }
