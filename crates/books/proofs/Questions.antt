@@ -2,17 +2,14 @@
 use mathlib.Core.Path.{_≡_, refl, sym, ap, subst, _∙_}
 use mathlib.Core.Bool.{Bool, true, false, cond}
 use mathlib.Core.Logic.{inl, inr}
-use Prim.Native.Nat.{ℕ, _<_, _≤_}
-use native.Mathlib.Omega.{arith}
+use Prim.Native.Nat.{ℕ}
 use lib.Dec.{ltb}
 use Rattle.std.proofs.shelf.Tests.{ltb-true, ltb-false}
-use Rattle.std.specs.declared.option.Option.{Option}
 use Rattle.std.specs.declared.option.Option.the-variants.{Some, None}
-use Rattle.std.specs.declared.result.Result.the-variants.{Ok, Err}
-use Rattle.books.specs.declared.fault.BookFault.{BookFault}
+use Rattle.std.specs.declared.result.Result.the-variants.{Ok}
 use Rattle.books.specs.declared.fault.BookFault.the-variants.{PieceOutside}
 use Rattle.books.specs.Table.{Table, Sound}
-use Rattle.books.specs.Asked.{answer-or, outside-fault, asked, Question-law, Answers-by-law}
+use Rattle.books.specs.Asked.{answer-or, asked, Question-law, Answers-by-law}
 
 by-tests : (t : Table) (i j : ℕ) → Sound t → (a b : Bool) → ltb i (t .count) ≡ a → ltb j (t .count) ≡ b → Question-law t i j (answer-or (cond a (cond b None (Some (PieceOutside j))) (Some (PieceOutside i))) (t .cost i j))
 by-tests t i j s true true p q =

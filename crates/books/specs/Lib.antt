@@ -1,4 +1,5 @@
 pub mod Limits
 pub mod Table
+pub mod Refusals
 pub mod Fault
 pub mod Asked

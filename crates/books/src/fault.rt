@@ -1,7 +1,8 @@
-// What a book refuses, and how each refusal is told: by its number and an added value.
+// What a book refuses.
 ghost use mathlib.Core.Path.{_≡_};
 ghost use Rattle.books.specs.Fault.{refusal};
 ghost use Rattle.books.specs.declared.fault.BookFault.the-variants.{NoMemory};
+use crate::refusal::*;
 use std::alloc::AllocError;
 use std::alloc::Refused;
 
@@ -33,35 +34,8 @@ pub enum BookFault {
     NoMemory,
 }
 
-// How a refusal is told: its number, 0 for want of memory, and the line, term or piece that it names.
-#[derive(Clone, Copy, PartialEq, Eq, Debug)]
-pub struct Refusal {
-    pub number: u8,
-    pub added: Option<usize>,
-}
-
-// A refusal that names a line, a term or a piece.
-fn naming(number: u8, named: usize) -> Refusal
-    ensures { λ r. ⌜ r ≡ Rattle.books.specs.Fault.naming number named ⌝ }
-{
-    Refusal {
-        number,
-        added: Some(named),
-    }
-}
-
-// A refusal that names nothing.
-fn plain(number: u8) -> Refusal
-    ensures { λ r. ⌜ r ≡ Rattle.books.specs.Fault.plain number ⌝ }
-{
-    Refusal {
-        number,
-        added: None,
-    }
-}
-
 impl BookFault {
-    // The fault's number and what it names.
+    // The fault's number and what it names; number 0 is want of memory.
     pub fn refusal(&self) -> Refusal
         ensures { λ r. ⌜ r ≡ refusal (now (self .entry)) ⌝ }
     {

@@ -2,3 +2,4 @@
 pub mod book;
 pub mod fault;
 pub mod limits;
+pub mod refusal;

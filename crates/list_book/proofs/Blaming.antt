@@ -1,5 +1,5 @@
 -- A refused list is refused for the cause that its fault names.
-use mathlib.Core.Path.{_≡_, refl, sym, ap, subst, _∙_}
+use mathlib.Core.Path.{_≡_, refl, sym, ap, subst}
 use mathlib.Core.Bool.{Bool, true, false, cond, _&&_}
 use mathlib.Core.List.{List}
 use Prim.Native.Nat.{ℕ, zero, suc, _+_, _<_, _≤_}
@@ -10,7 +10,6 @@ use lib.ListN.{length}
 use Rattle.std.proofs.shelf.Ways.{tells}
 use Rattle.std.proofs.shelf.Tests.{leb-true, leb-false, both-ways}
 use Rattle.std.specs.Options.{isSome}
-use Rattle.std.specs.declared.option.Option.{Option}
 use Rattle.std.specs.declared.option.Option.the-variants.{Some, None}
 use Rattle.std.specs.declared.result.Result.the-variants.{Ok, Err}
 use Rattle.books.specs.declared.fault.BookFault.{BookFault}
@@ -19,8 +18,8 @@ use Rattle.books.specs.Limits.{most-pieces, most-cost}
 use Rattle.ranges.proofs.Options.{none-some, same-some}
 use Rattle.ranges.proofs.First.{first-is}
 use Rattle.list_book.specs.declared.line.Line.{Line}
-use Rattle.list_book.specs.Lines.{most-lines, line, precedes, rises, before, fault-at, lines-fault, list-fault}
-use Rattle.list_book.specs.Listed.{Within, Above-last, Lowest, Blamed, Taken-by-law}
+use Rattle.list_book.specs.Lines.{most-lines, line, rises, before, fault-at, lines-fault, list-fault}
+use Rattle.list_book.specs.Listed.{Above-last, Lowest, Blamed, Taken-by-law}
 use Rattle.list_book.proofs.Lawful.{last-yes, good-at, list-answers}
 
 -- the line's own tests, by what they answer

@@ -1,27 +1,24 @@
 -- A list without a fault is within its limits, rises, is a lawful table, and answers by its lines.
 use mathlib.Core.Path.{_≡_, refl, sym, ap, _∙_}
-use mathlib.Core.Bool.{Bool, true, false, cond, _&&_}
+use mathlib.Core.Bool.{true, false}
 use mathlib.Core.List.{List}
 use mathlib.Core.Logic.{⊎-elim}
 use Prim.Native.Nat.{ℕ, zero, suc, _+_, _<_, _≤_, min, max}
 use native.Mathlib.Omega.{arith}
 use native.Mathlib.Numerals.{add-one}
-use lib.Dec.{eqb, leb}
 use lib.ListN.{length}
 use Rattle.std.specs.Options.{isSome}
 use Rattle.std.proofs.shelf.Ways.{tells}
 use Rattle.std.proofs.shelf.Tests.{cases-eq}
 use Rattle.std.specs.declared.option.Option.{Option}
 use Rattle.std.specs.declared.option.Option.the-variants.{Some, None}
-use Rattle.books.specs.declared.fault.BookFault.{BookFault}
 use Rattle.books.specs.Limits.{most-pieces, most-cost}
-use Rattle.ranges.specs.First.{first-of}
-use Rattle.books.specs.Table.{Table, Sound}
+use Rattle.books.specs.Table.{Sound}
 use Rattle.ranges.proofs.Options.{none-is, none-unless, none-some}
 use Rattle.ranges.proofs.First.{first-none, first-absent, first-found, first-is}
 use Rattle.list_book.specs.declared.line.Line.{Line}
 use Rattle.list_book.specs.Lines.{most-lines, line-of, line, cost-on, line-cost, list-table, precedes, rises, before, line-fault, fault-at, lines-fault, list-fault}
-use Rattle.list_book.specs.Listed.{On-line, Rising, Within, Above-last, Priced, Good, Lists}
+use Rattle.list_book.specs.Listed.{On-line, Rising, Above-last, Good, Lists}
 use Rattle.list_book.proofs.Ascending.{precedes-on, precedes-off}
 
 -- a list without a fault has few pieces, few lines, and no faulty line

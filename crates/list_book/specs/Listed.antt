@@ -1,6 +1,6 @@
 -- What a loaded list answers and why a list is refused, in the words of its lines.
 use mathlib.Core.Path.{_≡_}
-use mathlib.Core.Bool.{Bool, true, false}
+use mathlib.Core.Bool.{true, false}
 use mathlib.Core.List.{List}
 use Prim.Native.Nat.{ℕ, _+_, _<_, _≤_, min, max}
 use lib.ListN.{length}

@@ -1,5 +1,5 @@
 -- How a loop over a row finds the first that is there.
-use mathlib.Core.Path.{_≡_, refl, sym, ap, _∙_}
+use mathlib.Core.Path.{_≡_, refl, ap, _∙_}
 use mathlib.Core.Logic.{⊎-elim}
 use Prim.Native.Nat.{ℕ, zero, suc, _+_, _-_, _<_, _≤_}
 use native.Mathlib.Numerals.{add-one}
@@ -32,9 +32,13 @@ first-stays f k n x h e = let s : n ≡ (n - k) + k = omega arith in ap (first-o
 pub first-found : {X : Type 0} (f : ℕ → Option X) (k n : ℕ) (x : X) → k < n → first-of f k ≡ None → f k ≡ Some x → first-of f n ≡ Some x
 first-found f k n x h a b = first-stays f (k + 1) n x (omega arith) (first-here f k x a b)
 
-both-none : {X : Type 0} (a b : Option X) → or-else a b ≡ None → (a ≡ None) × (b ≡ None)
+-- neither of two is there
+pub both-none : {X : Type 0} (a b : Option X) → or-else a b ≡ None → (a ≡ None) × (b ≡ None)
 both-none None b e = (refl, e)
 both-none (Some x) b e = absurd (none-some (Some x) x e refl)
+
+pub none-both : {X : Type 0} (a b : Option X) → a ≡ None → b ≡ None → or-else a b ≡ None
+none-both a b p q = ap (λ o. or-else o b) p ∙ q
 
 -- what none says of each
 pub first-none : {X : Type 0} (f : ℕ → Option X) (n : ℕ) → first-of f n ≡ None → (k : ℕ) → k < n → f k ≡ None

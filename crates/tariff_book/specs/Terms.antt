@@ -1,5 +1,5 @@
 -- The limits of the four terms, numbered from 1.
-use mathlib.Core.Bool.{Bool, true, cond, _&&_}
+use mathlib.Core.Bool.{Bool, cond, _&&_}
 use Prim.Native.Nat.{ℕ, zero, suc, _+_, _≤_}
 use lib.Dec.{leb}
 use Rattle.std.specs.declared.option.Option.{Option}

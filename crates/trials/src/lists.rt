@@ -4,9 +4,9 @@ use books::book::CostBook;
 use books::fault::BookFault;
 use books::fault::BookFaultDebug;
 use books::fault::BookFaultPartialEq;
-use books::fault::Refusal;
-use books::fault::RefusalDebug;
-use books::fault::RefusalPartialEq;
+use books::refusal::Refusal;
+use books::refusal::RefusalDebug;
+use books::refusal::RefusalPartialEq;
 use list_book::line::Line;
 use list_book::list::ListBook;
 use list_book::list::calls::ListCostBook;
@@ -23,7 +23,7 @@ fn line(lower: usize, higher: usize, cost: u32) -> Line {
 }
 
 // `count` lines for 256 pieces, by lower, then higher piece; the cost of a line is its number.
-pub fn many_lines(heap: Global, count: u32) -> Result<Vec<Line>, AllocError> {
+pub(crate) fn many_lines(heap: Global, count: u32) -> Result<Vec<Line>, AllocError> {
     let mut lines = Vec::new(heap);
     let mut lower = 0;
     let mut higher = 1;
@@ -56,7 +56,10 @@ fn a_new_list_has_no_piece(rt: LibcRuntime) -> Result<(), Fail> {
 fn a_pair_has_the_cost_of_its_line(rt: LibcRuntime) -> Result<(), Fail> {
     let mut book = ListBook::new(rt.alloc());
     let lines = [line(0, 1, 1), line(0, 2, 4), line(1, 3, 4), line(2, 3, 10)];
-    check_eq(refused(book.load(4, Vec::from_slice(rt.alloc(), &lines)?)), None)?;
+    check_eq(
+        refused(book.load(4, Vec::from_slice(rt.alloc(), &lines)?)),
+        None,
+    )?;
     check_eq(book.count(), 4)?;
     let answers = [
         (0, 1, Ok(Some(1))),
@@ -89,7 +92,10 @@ fn pieces_and_lines_at_their_limits(rt: LibcRuntime) -> Result<(), Fail> {
     // Rows of 255, 254, .. lines: 16 rows have 3,960, so line 4,096 is the 136th of piece 16, with piece 152.
     check_eq(book.cost(16, 152), Ok(Some(4096)))?;
     check_eq(book.cost(16, 153), Ok(None))?;
-    check_eq(refused(book.load(256, many_lines(rt.alloc(), 4097)?)), plain(2))?;
+    check_eq(
+        refused(book.load(256, many_lines(rt.alloc(), 4097)?)),
+        plain(2),
+    )?;
     check_eq(book.cost(16, 153), Ok(None))
 }
 
@@ -130,8 +136,14 @@ fn sizes_are_told_before_lines(rt: LibcRuntime) -> Result<(), Fail> {
 fn a_refused_list_leaves_the_book(rt: LibcRuntime) -> Result<(), Fail> {
     let heap = rt.alloc();
     let mut book = ListBook::new(heap);
-    check_eq(refused(book.load(3, Vec::from_slice(heap, &[line(0, 1, 7)])?)), None)?;
-    check_eq(refused(book.load(2, Vec::from_slice(heap, &[line(0, 2, 8)])?)), naming(3, 1))?;
+    check_eq(
+        refused(book.load(3, Vec::from_slice(heap, &[line(0, 1, 7)])?)),
+        None,
+    )?;
+    check_eq(
+        refused(book.load(2, Vec::from_slice(heap, &[line(0, 2, 8)])?)),
+        naming(3, 1),
+    )?;
     check_eq(book.count(), 3)?;
     check_eq(book.cost(0, 1), Ok(Some(7)))?;
     check_eq(refused(book.load(2, Vec::new(heap))), None)?;

@@ -10,8 +10,8 @@ use books::book::CostBook;
 use books::fault::BookFault;
 use books::fault::BookFaultDebug;
 use books::fault::BookFaultPartialEq;
-use books::fault::RefusalDebug;
-use books::fault::RefusalPartialEq;
+use books::refusal::RefusalDebug;
+use books::refusal::RefusalPartialEq;
 use list_book::list::ListBook;
 use list_book::list::calls::ListCostBook;
 use std::alloc::AllocError;
@@ -78,5 +78,8 @@ fn layers_pile(rt: LibcRuntime) -> Result<(), Fail> {
     check_eq(cost_in_pile(&top, 0, 2), Ok(Some(12)))?;
     check_eq(cost_in_pile(&top, 3, 0), Ok(None))?;
     check_eq(cost_in_pile(&top, 0, 4), Ok(Some(4)))?;
-    check_eq(cost_in_pile(&top, 0, 256), Err(BookFault::PieceOutside(256)))
+    check_eq(
+        cost_in_pile(&top, 0, 256),
+        Err(BookFault::PieceOutside(256)),
+    )
 }

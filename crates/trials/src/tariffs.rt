@@ -5,9 +5,9 @@ use books::fault::BookFault;
 use books::fault::BookFaultDebug;
 use books::fault::BookFaultFromAlloc;
 use books::fault::BookFaultPartialEq;
-use books::fault::Refusal;
-use books::fault::RefusalDebug;
-use books::fault::RefusalPartialEq;
+use books::refusal::Refusal;
+use books::refusal::RefusalDebug;
+use books::refusal::RefusalPartialEq;
 use std::alloc::AllocError;
 use std::alloc::Global;
 use std::test::*;
@@ -73,7 +73,11 @@ fn pieces_that_overlap_or_start_together_are_barred(rt: LibcRuntime) -> Result<(
         (piece(0, 11, 1, 1), piece(10, 20, 1, 1), Ok(None)),
         (piece(0, 30, 1, 1), piece(10, 20, 1, 1), Ok(None)),
         (piece(5, 6, 1, 1), piece(5, 6, 1, 1), Ok(None)),
-        (piece(0, 1, 1, 1), piece(1439, 1440, 2, 1), Ok(Some(243_800))),
+        (
+            piece(0, 1, 1, 1),
+            piece(1439, 1440, 2, 1),
+            Ok(Some(243_800)),
+        ),
     ];
     for (one, other, answer) in answers {
         check_eq(priced(rt.alloc(), dear, one, other), answer)?;
@@ -108,10 +112,16 @@ fn records_at_their_limits(rt: LibcRuntime) -> Result<(), Fail> {
         (piece(7, 7, 0, 0), piece(8, 7, 0, 0), naming(7, 0)),
     ];
     for (one, other, refusal) in told {
-        check_eq(loaded(rt.alloc(), terms(0, 1, 0, 0), &[one, other])?, refusal)?;
+        check_eq(
+            loaded(rt.alloc(), terms(0, 1, 0, 0), &[one, other])?,
+            refusal,
+        )?;
     }
     // A faulty term is told before a faulty record.
-    check_eq(loaded(rt.alloc(), terms(0, 0, 0, 0), &[piece(7, 7, 0, 0)])?, naming(6, 2))
+    check_eq(
+        loaded(rt.alloc(), terms(0, 0, 0, 0), &[piece(7, 7, 0, 0)])?,
+        naming(6, 2),
+    )
 }
 
 #[test]

@@ -1,28 +1,23 @@
 // What the tests expect, and every refusal with its number and added value.
 use books::fault::BookFault;
-use books::fault::Refusal;
-use books::fault::RefusalDebug;
-use books::fault::RefusalPartialEq;
+use books::refusal;
+use books::refusal::Refusal;
+use books::refusal::RefusalDebug;
+use books::refusal::RefusalPartialEq;
 use std::test::*;
 
-// A refusal that names a line, a term or a piece.
-pub fn naming(number: u8, named: usize) -> Option<Refusal> {
-    Some(Refusal {
-        number,
-        added: Some(named),
-    })
+// A refusal that names nothing.
+pub(crate) fn plain(number: u8) -> Option<Refusal> {
+    Some(refusal::plain(number))
 }
 
-// A refusal that names nothing.
-pub fn plain(number: u8) -> Option<Refusal> {
-    Some(Refusal {
-        number,
-        added: None,
-    })
+// A refusal that names a line, a term or a piece.
+pub(crate) fn naming(number: u8, named: usize) -> Option<Refusal> {
+    Some(refusal::naming(number, named))
 }
 
 // How an answer was refused; `None` where it was accepted.
-pub fn refused<T: Drop>(answer: Result<T, BookFault>) -> Option<Refusal> {
+pub(crate) fn refused<T: Drop>(answer: Result<T, BookFault>) -> Option<Refusal> {
     match answer {
         Ok(_) => None,
         Err(fault) => Some(fault.refusal()),

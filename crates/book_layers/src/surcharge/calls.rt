@@ -3,7 +3,7 @@ ghost use mathlib.Core.Path.{_≡_};
 ghost use mathlib.Core.Bool.{cond, true, false};
 ghost use Prim.Native.Nat.{_≤_, _<_, _+_};
 ghost use lib.ListN.{set, replicate};
-ghost use Rattle.std.specs.Results.{errPart, isOk, Cases};
+ghost use Rattle.std.specs.Results.{errPart, isOk};
 ghost use Rattle.book_layers.specs.Surcharges.{surcharged, ends-marked, mark-fault, amount-fault, Surcharges, Piece-only};
 use super::MARKS;
 use super::SurchargeLayer;

@@ -1,11 +1,9 @@
 // The calls of a list book.
 ghost use mathlib.Core.Path.{_≡_};
 ghost use mathlib.Core.Bool.{cond};
-ghost use lib.ListN.{length};
 ghost use Rattle.std.specs.Of.Vec.{vec-items};
 ghost use Rattle.std.specs.Results.{errPart, isOk, Cases};
 ghost use Rattle.books.specs.Table.{no-table};
-ghost use Rattle.ranges.specs.First.{first-of};
 ghost use Rattle.list_book.specs.Lines.{lines-fault, list-fault, list-table};
 ghost use Rattle.list_book.specs.Listed.{Lists, Blamed, Taken-by-law};
 ghost use Rattle.list_book.specs.Meaning.{list-means};
@@ -45,8 +43,7 @@ fn check_list(count: usize, lines: &[Line]) -> Result<(), BookFault>
 // That a list is taken or refused by the law of its lines.
 fn taken_by_law(count: usize, lines: &[Line])
     ensures { λ _. ⌜ Taken-by-law count (now (lines .entry)) ⌝ }
-{
-}
+{}
 
 impl ListBook {
     // A list of no pieces.

@@ -40,8 +40,7 @@ fn check_tariff(terms: Terms, pieces: &[Piece]) -> Result<(), BookFault>
 // That a tariff is taken or refused by the law of its terms and records.
 fn taken_by_law(terms: Terms, pieces: &[Piece])
     ensures { λ _. ⌜ Taken-by-law terms (now (pieces .entry)) ⌝ }
-{
-}
+{}
 
 impl TariffBook {
     // A tariff of no pieces.

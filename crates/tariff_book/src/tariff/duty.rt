@@ -29,7 +29,7 @@ fn duty_cost(terms: Terms, early: Piece, late: Piece) -> Option<u32>
 }
 
 // What two pieces cost, the one that starts first as the early one; equal starts are barred.
-pub fn pieces_cost(terms: Terms, one: Piece, other: Piece) -> Option<u32>
+pub(super) fn pieces_cost(terms: Terms, one: Piece, other: Piece) -> Option<u32>
     requires { ⌜ isSome (terms-fault terms) ≡ false ⌝ ∗ ⌜ Good-piece one ⌝ ∗ ⌜ Good-piece other ⌝ }
     ensures { λ r. ⌜ r ≡ pieces-cost terms one other ⌝ }
 {
