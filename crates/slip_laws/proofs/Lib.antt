@@ -1,0 +1,16 @@
+pub mod Mates
+pub mod Passing
+pub mod Cheapest
+pub mod Gapped
+pub mod Fair
+pub mod Tested
+pub mod Records
+pub mod Priced
+pub mod Shares
+pub mod Leaving
+pub mod Certified
+pub mod Exactly
+pub mod Parted
+pub mod Formed
+pub mod Fractional
+pub mod Law
