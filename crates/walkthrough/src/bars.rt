@@ -56,7 +56,7 @@ fn fill(rt: &LibcRuntime) -> Result<(), WalkFault> {
     ask(rt, &layer, 0, 65)
 }
 
-pub fn walk(rt: &LibcRuntime) -> Result<(), WalkFault> {
+pub(crate) fn walk(rt: &LibcRuntime) -> Result<(), WalkFault> {
     println!(rt, "Bars over the list")?;
     let mut book = ListBook::new(rt.alloc());
     show_step(

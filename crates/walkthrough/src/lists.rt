@@ -7,7 +7,7 @@ use list_book::list::calls::ListCostBook;
 use std::alloc::AllocError;
 use std::alloc::Global;
 
-pub fn line(lower: usize, higher: usize, cost: u32) -> Line {
+pub(crate) fn line(lower: usize, higher: usize, cost: u32) -> Line {
     Line {
         lower,
         higher,
@@ -16,13 +16,13 @@ pub fn line(lower: usize, higher: usize, cost: u32) -> Line {
 }
 
 // Four pieces, of which four pairs may be worked.
-pub fn morning_lines(heap: Global) -> Result<Vec<Line>, AllocError> {
+pub(crate) fn morning_lines(heap: Global) -> Result<Vec<Line>, AllocError> {
     let lines = vec![in heap; line(0, 1, 1), line(0, 2, 4), line(1, 3, 4), line(2, 3, 10)]?;
     Ok(lines)
 }
 
 // The first of `count` pairs of 256 pieces, by lower, then higher piece: a list of many lines.
-pub fn long_lines(heap: Global, count: usize) -> Result<Vec<Line>, AllocError> {
+pub(crate) fn long_lines(heap: Global, count: usize) -> Result<Vec<Line>, AllocError> {
     let mut lines = Vec::new(heap);
     let mut lower = 0;
     let mut higher = 1;
@@ -52,7 +52,7 @@ fn refuse_lists(rt: &LibcRuntime, book: &mut ListBook) -> Result<(), WalkFault> 
     show_step(rt, "load a cost of 1,000,001", book.load(4, dear))
 }
 
-pub fn walk(rt: &LibcRuntime) -> Result<(), WalkFault> {
+pub(crate) fn walk(rt: &LibcRuntime) -> Result<(), WalkFault> {
     println!(rt, "A list of four pieces")?;
     let mut book = ListBook::new(rt.alloc());
     ask(rt, &book, 0, 1)?;

@@ -7,6 +7,7 @@ mod show;
 mod surcharges;
 mod survey;
 mod tariffs;
+mod verdicts;
 
 use fault::*;
 
@@ -17,5 +18,6 @@ fn main(rt: LibcRuntime) -> Result<(), WalkFault> {
     tariffs::walk(&rt)?;
     piles::walk(&rt)?;
     survey::walk(&rt)?;
+    verdicts::walk(&rt)?;
     Ok(())
 }

@@ -55,7 +55,7 @@ fn surcharge_on_top(rt: &LibcRuntime) -> Result<(), WalkFault> {
     ask(rt, &top, 0, 3)
 }
 
-pub fn walk(rt: &LibcRuntime) -> Result<(), WalkFault> {
+pub(crate) fn walk(rt: &LibcRuntime) -> Result<(), WalkFault> {
     bars_on_top(rt)?;
     surcharge_on_top(rt)
 }

@@ -3,7 +3,8 @@ use crate::fault::*;
 use books::book::CostBook;
 use books::book::cost_of;
 use books::fault::BookFault;
-use books::fault::Refusal;
+use books::refusal::Named;
+use books::refusal::Refusal;
 use std::fmt;
 
 // A refusal with its number and what it names.
@@ -15,6 +16,7 @@ fn kind_named(number: u8) -> &'static str {
     match number {
         3 | 4 | 5 => "line",
         6 => "term",
+        19 | 21 => "group",
         _ => "piece",
     }
 }
@@ -22,18 +24,20 @@ fn kind_named(number: u8) -> &'static str {
 pub impl fmt::Display for Told as ToldDisplay {
     fn fmt<W: fmt::Write>(&self, f: &mut fmt::Formatter<W>) -> fmt::Result {
         let number = self.0.number;
-        match self.0.added {
-            Some(named) => {
-                let kind = kind_named(number);
-                write!(f, "refused {number}, {kind} {named}")
-            }
-            None => write!(f, "refused {number}"),
+        let kind = kind_named(number);
+        match self.0.names {
+            Named::Nothing => write!(f, "refused {number}"),
+            Named::One(named) => write!(f, "refused {number}, {kind} {named}"),
+            Named::Two(first, second) => write!(
+                f,
+                "refused {number}, {kind}s {first} and {second}"
+            ),
         }
     }
 }
 
 // Prints a step and whether it was accepted.
-pub fn show_step(
+pub(crate) fn show_step(
     rt: &LibcRuntime,
     step: &str,
     answer: Result<(), BookFault>,
@@ -49,7 +53,12 @@ pub fn show_step(
 }
 
 // Asks a book for the cost of two pieces, and prints the answer.
-pub fn ask<B: CostBook>(rt: &LibcRuntime, book: &B, i: usize, j: usize) -> Result<(), WalkFault> {
+pub(crate) fn ask<B: CostBook>(
+    rt: &LibcRuntime,
+    book: &B,
+    i: usize,
+    j: usize,
+) -> Result<(), WalkFault> {
     match cost_of(book, i, j) {
         Ok(Some(cost)) => println!(rt, "  {i} with {j}: {cost}")?,
         Ok(None) => println!(rt, "  {i} with {j}: barred")?,

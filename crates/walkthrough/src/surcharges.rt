@@ -7,7 +7,7 @@ use book_layers::surcharge::calls::SurchargeCostBook;
 use list_book::list::ListBook;
 use list_book::list::calls::ListCostBook;
 
-pub fn walk(rt: &LibcRuntime) -> Result<(), WalkFault> {
+pub(crate) fn walk(rt: &LibcRuntime) -> Result<(), WalkFault> {
     println!(rt, "A surcharge over the list")?;
     let mut book = ListBook::new(rt.alloc());
     show_step(

@@ -44,7 +44,7 @@ fn count_allowed<B: CostBook>(book: &B) -> usize
     seen
 }
 
-pub fn walk(rt: &LibcRuntime) -> Result<(), WalkFault> {
+pub(crate) fn walk(rt: &LibcRuntime) -> Result<(), WalkFault> {
     println!(rt, "All questions of a full list")?;
     let mut book = ListBook::new(rt.alloc());
     show_step(

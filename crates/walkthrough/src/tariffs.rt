@@ -9,7 +9,7 @@ use tariff_book::tariff::calls::TariffCostBook;
 use tariff_book::terms::Terms;
 
 // A break of 30 minutes at least, a spread of 12 hours at most, 10 pence a minute, 5 pounds for a move.
-pub fn morning_terms() -> Terms {
+pub(crate) fn morning_terms() -> Terms {
     Terms {
         least_break: 30,
         greatest_spread: 720,
@@ -28,7 +28,7 @@ fn piece(starts: u16, ends: u16, origin: u16, destination: u16) -> Piece {
 }
 
 // A piece from 6:00 to 10:00, and four that might follow it.
-pub fn morning_pieces(heap: Global) -> Result<Vec<Piece>, AllocError> {
+pub(crate) fn morning_pieces(heap: Global) -> Result<Vec<Piece>, AllocError> {
     let pieces = vec![in heap;
         piece(360, 600, 1, 2),
         piece(840, 1080, 2, 1),
@@ -61,7 +61,7 @@ fn refuse_tariffs(rt: &LibcRuntime, book: &mut TariffBook) -> Result<(), WalkFau
     )
 }
 
-pub fn walk(rt: &LibcRuntime) -> Result<(), WalkFault> {
+pub(crate) fn walk(rt: &LibcRuntime) -> Result<(), WalkFault> {
     println!(rt, "A tariff of five pieces")?;
     let mut book = TariffBook::new(rt.alloc());
     show_step(

@@ -9,5 +9,5 @@ pub fn worked_cases() -> usize
     ensures number { λ r. ⌜ r ≡ length worked ⌝ }
     ensures hold { λ _. ⌜ All Holds worked ⌝ }
 {
-    4
+    13
 }
