@@ -3,5 +3,5 @@ use Rattle.list_book.specs.Listed.{Rising}
 use Rattle.list_book.specs.Lawful.{list_rises}
 use Rattle.list_book.proofs.list.calls.ListBookCostBook.cost.Goals as goal
 
-pub find-cost-requires : goal.find-cost-requires
-find-cost-requires c = subst Rising (sym c.deref.ensures.value) (list_rises c.args.self.now.count _ c.args.self.now.lawful)
+pub find_cost-requires : goal.find_cost-requires
+find_cost-requires c = subst Rising (sym c.deref.ensures.value) (list_rises c.args.self.now.count _ c.args.self.now.lawful)
