@@ -1,4 +1,6 @@
 // Every answer of the check of slips, run as tests.
+#![tactic(auto)]
+
 #[cfg(test)]
 mod chain;
 #[cfg(test)]

@@ -1,5 +1,7 @@
 // A first-in, first-out queue over records that the caller lends. It holds as many items as there are records, and uses a
 // freed record again.
+#![tactic(auto)]
+
 ghost use Rattle.std.specs.Prelude.{◌≤◌, length};
 
 mod calls;

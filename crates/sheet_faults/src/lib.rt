@@ -1,4 +1,6 @@
 // What the calls on a sheet refuse, and how it is told: by a number and by what it names.
+#![tactic(auto)]
+
 ghost use Rattle.std.specs.Prelude.{◌≡◌};
 ghost use Rattle.books.specs.declared.refusal.Refusal.{Refusal};
 ghost use Rattle.sheet_faults.specs.Faults.{open_refusal, post_refusal, take_refusal, docket_refusal, restore_refusal, close_refusal, check_refusal};

@@ -1,4 +1,6 @@
 // Runs a list of calls on a sheet.
+#![tactic(auto)]
+
 ghost use Rattle.std.specs.Prelude.{◌≡◌, [], vec_capacity, MatchResult};
 ghost use Rattle.books.specs.Table.{Table};
 ghost use Rattle.sheets.specs.Views.{memory};

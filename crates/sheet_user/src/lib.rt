@@ -1,5 +1,7 @@
 // The calls of a sheet as a planner's program makes them. The edits beside this crate turn them into programs that must not be: that drop, copy or
 // forge a docket, spend it twice, copy or forge a sheet, check on an open sheet or post to a closed one. The checker refuses each.
+#![tactic(auto)]
+
 use books::book::CostBook;
 use queue::Queue;
 use sheet_faults::*;

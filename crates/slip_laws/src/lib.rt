@@ -1,4 +1,6 @@
 // What a slip that passes is worth: the proofs.
+#![tactic(auto)]
+
 ghost use Rattle.slips.specs.Worth.{VerdictsByLaw};
 
 // That every verdict on a slip keeps the law: a priced slip that passes is a least pairing, and a gap slip that passes shows that there is none.

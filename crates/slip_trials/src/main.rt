@@ -1,4 +1,6 @@
 // The check of slips against an independent one: many small slips are made, lawful and damaged, and each is judged twice.
+#![tactic(auto)]
+
 mod compare;
 mod damage;
 mod deal;

@@ -1,4 +1,6 @@
 // Boundaries and refusals of the books, run as tests.
+#![tactic(auto)]
+
 #[cfg(test)]
 mod bars;
 #[cfg(test)]

@@ -1,4 +1,6 @@
 // One morning at a depot: drives the library through its steps, and prints each with its answer.
+#![tactic(auto)]
+
 mod bars;
 mod fault;
 mod lists;

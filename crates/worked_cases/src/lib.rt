@@ -1,4 +1,6 @@
 // The worked examples of the rules, in one table with one proof.
+#![tactic(auto)]
+
 ghost use Rattle.std.specs.Prelude.{◌≡◌, length};
 ghost use Rattle.std.specs.List.{AllByRecursion as All};
 ghost use Rattle.worked_cases.specs.Cases.{Holds, worked};
