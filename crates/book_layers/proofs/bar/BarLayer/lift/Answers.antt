@@ -3,8 +3,8 @@ use Rattle.book_layers.specs.Bars.{Drops}
 use Rattle.book_layers.specs.Barring.{apart_removed, drops_removed, drops_law}
 use Rattle.book_layers.proofs.bar.BarLayer.lift.Goals as goal
 
-pub invariant-of-self : goal.invariant-of-self
-invariant-of-self g c =
+pub invariant_of-self : goal.invariant_of-self
+invariant_of-self g c =
     let e = c.in-Some.ensures in
     let a = apart_removed (vec_items c.args.self.now.bars) c.in-Some.k in
     search rules

@@ -5,11 +5,11 @@ use Rattle.tariff_book.specs.Pieces.{piece_fault}
 use Rattle.tariff_book.specs.Tariff.{piece}
 use Rattle.tariff_book.proofs.tariff.calls.check_pieces.Goals as goal
 
-pub returns-in-err-check-piece : goal.returns-in-err-check-piece
-returns-in-err-check-piece c =
+pub returns-in_err-check_piece : goal.returns-in_err-check_piece
+returns-in_err-check_piece c =
     let ps = c.args.pieces.now in
-    let p = err_from_is_err_and c.from-residual.result c.from-residual.ensures.1 in
+    let p = err_from_is_err_and c.from_residual.result c.from_residual.ensures.1 in
     rw (p.1, p.2) (sym (first_found (λ k. piece_fault k (piece ps k)) c.loop-k.k (length ps) _ c.loop-k-test.true c.loop-k.invariant (search rules)))
 
 pub loop-k-preserved : goal.loop-k-preserved
-loop-k-preserved c = first_more _ c.loop-k.k c.loop-k.invariant (sym c.in-ok-check-piece.ensures)
+loop-k-preserved c = first_more _ c.loop-k.k c.loop-k.invariant (sym c.in_ok-check_piece.ensures)

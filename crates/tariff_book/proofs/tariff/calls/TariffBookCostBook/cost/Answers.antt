@@ -3,8 +3,8 @@ use Rattle.tariff_book.specs.Pricing.{read_asked}
 use Rattle.tariff_book.specs.Within.{no_fault, read_good}
 use Rattle.tariff_book.proofs.tariff.calls.TariffBookCostBook.cost.Goals as goal
 
-pub pieces-cost-requires : goal.pieces-cost-requires
-pieces-cost-requires c =
+pub pieces_cost-requires : goal.pieces_cost-requires
+pieces_cost-requires c =
     let b = c.args.self.now in
     let ps = vec_items b.pieces in
     let held = no_fault b.terms ps b.lawful in
