@@ -3,6 +3,6 @@ use Rattle.slip_check.proofs.check.check.Goals as goal
 
 pub returns : goal.returns
 returns g c = record {
-  verdict = c.first-fault.ensures;
+  verdict = c.first_fault.ensures;
   law = c.verdicts_by_law.ensures (g.B.CostBook.means c.args.book.now) c.args.marks.now (view c.args.slip.now) (g.met.B.CostBook.sound c.args.book.now);
 }

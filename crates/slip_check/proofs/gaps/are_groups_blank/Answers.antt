@@ -5,13 +5,13 @@ use Rattle.slips.specs.Verdict.{blank_group}
 use Rattle.slip_check.specs.Tables.{slip_of}
 use Rattle.slip_check.proofs.gaps.are_groups_blank.Goals as goal
 
-pub returns-then-not-is-blank-group : goal.returns-then-not-is-blank-group
-returns-then-not-is-blank-group c =
-    sym (all_broken (λ k. blank_group (group_at (slip_of 0 [] c.args.groups.now) k)) c.loop-k.k 127 c.loop-k-test.true (sym c.if-not-is-blank-group.ensures))
+pub returns-then-not-is_blank_group : goal.returns-then-not-is_blank_group
+returns-then-not-is_blank_group c =
+    sym (all_broken (λ k. blank_group (group_at (slip_of 0 [] c.args.groups.now) k)) c.loop-k.k 127 c.loop-k-test.true (sym c.if-not-is_blank_group.ensures))
 
 pub loop-k-preserved : goal.loop-k-preserved
 loop-k-preserved c =
-    all_more (λ k. blank_group (group_at (slip_of 0 [] c.args.groups.now) k)) c.loop-k.k c.loop-k.invariant (sym c.if-not-is-blank-group.ensures)
+    all_more (λ k. blank_group (group_at (slip_of 0 [] c.args.groups.now) k)) c.loop-k.k c.loop-k.invariant (sym c.if-not-is_blank_group.ensures)
 
 pub returns : goal.returns
 returns c =

@@ -7,10 +7,10 @@ use Rattle.slip_check.specs.Tables.{slip_of, bare}
 use Rattle.slip_check.proofs.Tally.{counted, passed}
 use Rattle.slip_check.proofs.PartCounts.{odd_at, even_at}
 use Rattle.slip_check.proofs.gaps.count_odd_parts.Goals as goal
-use Rattle.slip_check.proofs.gaps.count_odd_parts.Goals.{then-count-part-eq1, else-count-part-eq1}
+use Rattle.slip_check.proofs.gaps.count_odd_parts.Goals.{then-count_part-eq1, else-count_part-eq1}
 
-pub overflow-add-seen : goal.overflow-add-seen
-overflow-add-seen c =
+pub overflow_add-seen : goal.overflow_add-seen
+overflow_add-seen c =
     let size = part_size (problem (bare (length c.args.pieces.now)) c.args.marks.now) (group (slip_of 0 c.args.pieces.now [])) in
     let b = count_bound c.loop-j.j (λ j. eqb (size (suc j) % 2) 1) in
     search rules
@@ -19,11 +19,11 @@ pub loop-j-preserved : goal.loop-j-preserved
 loop-j-preserved c =
     let size = part_size (problem (bare (length c.args.pieces.now)) c.args.marks.now) (group (slip_of 0 c.args.pieces.now [])) in
     let j = c.loop-j.j in
-    elim c.if-count-part-eq1.branch [
-      | then-count-part-eq1 w ↦
-          counted j (λ k. eqb (size (suc k) % 2) 1) c.loop-j.seen _ c.loop-j.invariant w.seen-is (odd_at size j c.count-part.result c.count-part.ensures w.if-count-part-eq1.true)
-      | else-count-part-eq1 w ↦
-          passed j (λ k. eqb (size (suc k) % 2) 1) c.loop-j.seen _ c.loop-j.invariant w.seen-is (even_at size j c.count-part.result c.count-part.ensures w.if-count-part-eq1.false)
+    elim c.if-count_part-eq1.branch [
+      | then-count_part-eq1 w ↦
+          counted j (λ k. eqb (size (suc k) % 2) 1) c.loop-j.seen _ c.loop-j.invariant w.seen-is (odd_at size j c.count_part.result c.count_part.ensures w.if-count_part-eq1.true)
+      | else-count_part-eq1 w ↦
+          passed j (λ k. eqb (size (suc k) % 2) 1) c.loop-j.seen _ c.loop-j.invariant w.seen-is (even_at size j c.count_part.result c.count_part.ensures w.if-count_part-eq1.false)
     ]
 
 pub returns : goal.returns

@@ -5,16 +5,16 @@ use Rattle.slip_check.proofs.Nesting.{nested_rises}
 use Rattle.slip_check.proofs.nests.is_up.Goals as goal
 use Rattle.slip_check.proofs.nests.is_up.Goals.{then-loop-at-test+else-at-h, else-loop-at-test}
 
-climb : (c : goal.After-parent-of-at) → Climbs (parent_in c.args.groups.now) c.args.count c.loop-at.at c.args.h
+climb : (c : goal.After-parent_of-at) → Climbs (parent_in c.args.groups.now) c.args.count c.loop-at.at c.args.h
 climb c = climbs (parent_in c.args.groups.now) c.args.count (nested_rises c.args.count c.args.groups.now c.requires.0) c.loop-at.at c.args.h (omega arith) c.loop-at.invariant.0 c.if-at-h.true
 
 pub loop-at-smaller : goal.loop-at-smaller
-loop-at-smaller c = let s = climb c in simp c.parent-of-at.ensures s.nearer
+loop-at-smaller c = let s = climb c in simp c.parent_of-at.ensures s.nearer
 
 pub loop-at-preserved : goal.loop-at-preserved
 loop-at-preserved c =
     let s = climb c in
-    (simp c.parent-of-at.ensures s.few, ap (λ x. holds_up c.args.groups.now c.args.count x c.args.h) c.parent-of-at.ensures ∙ (s.same ∙ c.loop-at.invariant.1))
+    (simp c.parent_of-at.ensures s.few, ap (λ x. holds_up c.args.groups.now c.args.count x c.args.h) c.parent_of-at.ensures ∙ (s.same ∙ c.loop-at.invariant.1))
 
 pub returns : goal.returns
 returns c =

@@ -7,7 +7,7 @@ use Rattle.ranges.proofs.Options.{none_some, same_some}
 use Rattle.slip_check.proofs.Lowest.{lowest_more}
 use Rattle.slip_check.proofs.Rows.{row_begins, row_passed, rows_passed, pair_failed}
 use Rattle.slip_check.proofs.pairs.check_prices.Goals as goal
-use Rattle.slip_check.proofs.pairs.check_prices.Goals.{else-pairs-test, then-pairs-test+then-loop-v-test+then-not-is-good-pair}
+use Rattle.slip_check.proofs.pairs.check_prices.Goals.{else-pairs-test, then-pairs-test+then-loop-v-test+then-not-is_good_pair}
 
 pub loop-v-init : goal.loop-v-init
 loop-v-init g c =
@@ -17,7 +17,7 @@ pub loop-v-preserved : goal.loop-v-preserved
 loop-v-preserved g c =
     let p = problem (g.B.CostBook.means c.args.book.now) c.args.marks.now in
     let s = slip_of c.args.count c.args.pieces.now c.args.groups.now in
-    (c.loop-v.invariant.0, c.loop-v.invariant.1, lowest_more (pair_good p s c.pairs.u) (Prices c.pairs.u) c.loop-v.v c.loop-v.invariant.2 (sym c.is-good-pair.ensures ∙ c.if-not-is-good-pair.false))
+    (c.loop-v.invariant.0, c.loop-v.invariant.1, lowest_more (pair_good p s c.pairs.u) (Prices c.pairs.u) c.loop-v.v c.loop-v.invariant.2 (sym c.is_good_pair.ensures ∙ c.if-not-is_good_pair.false))
 
 pub pairs-preserved : goal.pairs-preserved
 pairs-preserved g c =
@@ -34,9 +34,9 @@ returns-in-Some g c =
     let s = slip_of c.args.count c.args.pieces.now c.args.groups.now in
     elim c.pairs-test.branch [
       | else-pairs-test w ↦ absurd (none_some c.pairs-test.offending (c.in-Some.u, c.in-Some.v) (w.offending-is ∙ c.pairs.invariant.0) c.in-Some.is)
-      | then-pairs-test+then-loop-v-test+then-not-is-good-pair w ↦
+      | then-pairs-test+then-loop-v-test+then-not-is_good_pair w ↦
           found c.pairs-test.offending c.pairs.u w.loop-v.v c.in-Some.u c.in-Some.v w.offending-is c.in-Some.is
-          ∙ sym (pair_failed p s c.pairs.u w.loop-v.v (length c.args.pieces.now) c.requires.0 w.pairs-test.true w.loop-v-test.true w.loop-v.invariant.1 w.loop-v.invariant.2 (sym w.is-good-pair.ensures ∙ w.if-not-is-good-pair.true))
+          ∙ sym (pair_failed p s c.pairs.u w.loop-v.v (length c.args.pieces.now) c.requires.0 w.pairs-test.true w.loop-v-test.true w.loop-v.invariant.1 w.loop-v.invariant.2 (sym w.is_good_pair.ensures ∙ w.if-not-is_good_pair.true))
     ]
 
 pub returns-in-None : goal.returns-in-None
@@ -45,5 +45,5 @@ returns-in-None g c =
     let s = slip_of c.args.count c.args.pieces.now c.args.groups.now in
     elim c.pairs-test.branch [
       | else-pairs-test w ↦ (let end : c.pairs.u ≡ length c.args.pieces.now = omega (arith, w.pairs-test.false) in sym (rows_passed p s c.pairs.u (length c.args.pieces.now) c.requires.0 end c.pairs.invariant.1))
-      | then-pairs-test+then-loop-v-test+then-not-is-good-pair w ↦ absurd (none_some c.pairs-test.offending (c.pairs.u, w.loop-v.v) c.in-None.is w.offending-is)
+      | then-pairs-test+then-loop-v-test+then-not-is_good_pair w ↦ absurd (none_some c.pairs-test.offending (c.pairs.u, w.loop-v.v) c.in-None.is w.offending-is)
     ]

@@ -15,17 +15,17 @@ use Rattle.slip_check.proofs.pieces.check_pieces.Goals as goal
 abbrev term : Problem → View → ℕ → ℕ
 term p s u = cond (leads p (mate s) u) (pence p u (mate s u)) 0
 
-pub piece-cost-requires : goal.piece-cost-requires
-piece-cost-requires g c = (c.requires, (c.loop-u-test.true, λ w h. unless_passed _ (Piece w) (first_none _ c.loop-u.u c.loop-u.invariant.0 w h)))
+pub piece_cost-requires : goal.piece_cost-requires
+piece_cost-requires g c = (c.requires, (c.loop-u-test.true, λ w h. unless_passed _ (Piece w) (first_none _ c.loop-u.u c.loop-u.invariant.0 w h)))
 
-pub returns-in-default : goal.returns-in-default
-returns-in-default g c =
+pub returns-in_default : goal.returns-in_default
+returns-in_default g c =
     let p = problem (g.B.CostBook.means c.args.book.now) c.args.marks.now in
     let s = slip_of c.args.count c.args.pieces.now [] in
-    sym (lowest_found (piece_good p s) Piece c.loop-u.u p.size (omega (arith, c.requires)) c.loop-u.invariant.0 c.in-default.ensures.good)
+    sym (lowest_found (piece_good p s) Piece c.loop-u.u p.size (omega (arith, c.requires)) c.loop-u.invariant.0 c.in_default.ensures.good)
 
-pub overflow-add-total : goal.overflow-add-total
-overflow-add-total g c =
+pub overflow_add-total : goal.overflow_add-total
+overflow_add-total g c =
     let few = (g.met.B.CostBook.sound c.args.book.now).few in
     let size = c.requires in
     let b = c.in-Some.ensures.bound in
