@@ -10,10 +10,10 @@ use Rattle.sheets.proofs.memory.are_named.Goals as goal
 abbrev named : ℕ → List Request → Bool
 named n qs = each (λ q. ltb q.piece n) qs
 
-pub returns-in-default : goal.returns-in-default
-returns-in-default c =
+pub returns-in_default : goal.returns-in_default
+returns-in_default c =
     let qs = waiting c.args.queue.now in
-    sym (ap (named c.args.pieces) (item_past qs c.loop-i.i (sym c.get.ensures ∙ c.in-default.is))) ∙ c.loop-i.invariant
+    sym (ap (named c.args.pieces) (item_past qs c.loop-i.i (sym c.get.ensures ∙ c.in_default.is))) ∙ c.loop-i.invariant
 
 pub loop-i-preserved : goal.loop-i-preserved
 loop-i-preserved c =

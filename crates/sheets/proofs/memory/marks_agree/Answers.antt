@@ -9,13 +9,13 @@ counts p t k w = record { pieces = p; taken = t; struck = k; waiting = w }
 pub returns-then-marks-pieces : goal.returns-then-marks-pieces
 returns-then-marks-pieces c w = sym (no_pieces (counts c.args.pieces c.args.taken c.args.struck w) c.args.marks.now c.if-marks-pieces.true)
 
-pub returns-then-not-are-marks : goal.returns-then-not-are-marks
-returns-then-not-are-marks c w = sym (no_lawful (counts c.args.pieces c.args.taken c.args.struck w) c.args.marks.now (sym c.if-not-are-marks.ensures))
+pub returns-then-not-are_marks : goal.returns-then-not-are_marks
+returns-then-not-are_marks c w = sym (no_lawful (counts c.args.pieces c.args.taken c.args.struck w) c.args.marks.now (sym c.if-not-are_marks.ensures))
 
-pub returns-then-count-marked-taken : goal.returns-then-count-marked-taken
-returns-then-count-marked-taken c w = sym (no_taken (counts c.args.pieces c.args.taken c.args.struck w) c.args.marks.now (λ e. c.if-count-marked-taken.true (c.count-marked.ensures ∙ e)))
+pub returns-then-count_marked-taken : goal.returns-then-count_marked-taken
+returns-then-count_marked-taken c w = sym (no_taken (counts c.args.pieces c.args.taken c.args.struck w) c.args.marks.now (λ e. c.if-count_marked-taken.true (c.count_marked.ensures ∙ e)))
 
 pub returns : goal.returns
 returns c w =
-    ap (λ n. eqb n c.args.struck) c.count-marked-2.ensures
-    ∙ sym (if_struck (counts c.args.pieces c.args.taken c.args.struck w) c.args.marks.now c.if-marks-pieces.false (sym c.if-not-are-marks.ensures) (sym c.count-marked.ensures ∙ c.if-count-marked-taken.false))
+    ap (λ n. eqb n c.args.struck) c.count_marked-2.ensures
+    ∙ sym (if_struck (counts c.args.pieces c.args.taken c.args.struck w) c.args.marks.now c.if-marks-pieces.false (sym c.if-not-are_marks.ensures) (sym c.count_marked.ensures ∙ c.if-count_marked-taken.false))

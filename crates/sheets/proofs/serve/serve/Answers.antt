@@ -10,8 +10,8 @@ use Rattle.sheets.proofs.serve.serve.Goals as goal
 
 pub returns-in-Open-OnOpen : goal.returns-in-Open-OnOpen
 returns-in-Open-OnOpen g c = record {
-  served = given_as g.B.CostBook.means c.in-Open-OnOpen.is-0 c.in-Open-OnOpen.is-1 c.serve-open-after.ensures.served;
-  records = c.serve-open-after.ensures.records ∙ ap (λ y. records_after y c.serve-open-after.result.1 c.args.queue.now) (sym c.in-Open-OnOpen.is-1);
+  served = given_as g.B.CostBook.means c.in-Open-OnOpen.is-0 c.in-Open-OnOpen.is-1 c.serve_open-after.ensures.served;
+  records = c.serve_open-after.ensures.records ∙ ap (λ y. records_after y c.serve_open-after.result.1 c.args.queue.now) (sym c.in-Open-OnOpen.is-1);
 }
 
 pub returns-in-Closed-Reopen : goal.returns-in-Closed-Reopen

@@ -21,7 +21,7 @@ returns-in-Take g c =
     let call = OpenCall.Take in
     let a = take_answer c.take-r.result in
     record {
-      served = on_open g.B.CostBook.means (open_view c.args.sheet) _ _ _ c.args.call call a _ c.in-Take.is refl c.told-take.ensures.view c.take-r.ensures.did (none_back a _ c.told-take.ensures.back);
+      served = on_open g.B.CostBook.means (open_view c.args.sheet) _ _ _ c.args.call call a _ c.in-Take.is refl c.told_take.ensures.view c.take-r.ensures.did (none_back a _ c.told_take.ensures.back);
       records = same_records c.args.call call _ c.args.queue.now _ c.in-Take.is refl c.take-r.ensures.records;
     }
 
@@ -30,7 +30,7 @@ returns-in-Strike g c =
     let call = OpenCall.Strike c.in-Strike.docket in
     let a = answer docket_told c.strike-r.result in
     record {
-      served = on_open g.B.CostBook.means (open_view c.args.sheet) _ _ _ c.args.call call a _ c.in-Strike.is refl c.told-docket.ensures.view c.strike-r.ensures.did (c.told-docket.ensures.back ∙ docket_returned c.strike-r.result c.in-Strike.docket c.strike-r.ensures.back);
+      served = on_open g.B.CostBook.means (open_view c.args.sheet) _ _ _ c.args.call call a _ c.in-Strike.is refl c.told_docket.ensures.view c.strike-r.ensures.did (c.told_docket.ensures.back ∙ docket_returned c.strike-r.result c.in-Strike.docket c.strike-r.ensures.back);
       records = same_records c.args.call call _ c.args.queue.now _ c.in-Strike.is refl refl;
     }
 
@@ -39,7 +39,7 @@ returns-in-Decline g c =
     let call = OpenCall.Decline c.in-Decline.docket in
     let a = answer docket_told c.decline-r.result in
     record {
-      served = on_open g.B.CostBook.means (open_view c.args.sheet) _ _ _ c.args.call call a _ c.in-Decline.is refl c.told-docket-in-Decline.ensures.view c.decline-r.ensures.did (c.told-docket-in-Decline.ensures.back ∙ docket_returned c.decline-r.result c.in-Decline.docket c.decline-r.ensures.back);
+      served = on_open g.B.CostBook.means (open_view c.args.sheet) _ _ _ c.args.call call a _ c.in-Decline.is refl c.told_docket-in-Decline.ensures.view c.decline-r.ensures.did (c.told_docket-in-Decline.ensures.back ∙ docket_returned c.decline-r.result c.in-Decline.docket c.decline-r.ensures.back);
       records = same_records c.args.call call _ c.args.queue.now _ c.in-Decline.is refl refl;
     }
 
@@ -58,7 +58,7 @@ returns-in-Close g c =
     let a = close_answer c.close-r.result in
     record {
       served =
-          leaving g.B.CostBook.means c.told-close.ensures.sheet
-          (on_open g.B.CostBook.means (open_view c.args.sheet) _ _ _ c.args.call call a _ c.in-Close.is refl c.told-close.ensures.view c.close-r.ensures.did (none_back a _ c.told-close.ensures.back));
+          leaving g.B.CostBook.means c.told_close.ensures.sheet
+          (on_open g.B.CostBook.means (open_view c.args.sheet) _ _ _ c.args.call call a _ c.in-Close.is refl c.told_close.ensures.view c.close-r.ensures.did (none_back a _ c.told_close.ensures.back));
       records = same_records c.args.call call _ c.args.queue.now _ c.in-Close.is refl refl;
     }

@@ -10,7 +10,7 @@ use Rattle.sheets.proofs.sheet.OpenSheet.open.Goals as goal
 pub returns : goal.returns
 returns g c =
     let qs = waiting c.args.queue.now in
-    let blank = and_parts _ _ (sym c.if-not-is-blank.ensures) in
+    let blank = and_parts _ _ (sym c.if-not-is_blank.ensures) in
     let many = eqb-true _ _ blank.0 ∙ c.count-pieces.ensures in
     let none : qs ≡ [] = nil_from_length qs (sym c.len.ensures ∙ eqb-true _ _ blank.1) in
     let ms = c.clear.ensures ∙ ap (λ n. replicate n free) many in
@@ -20,6 +20,6 @@ returns g c =
       accepts = sym (and_from _ _ (eq-eqb _ _ many) (ap nothing none));
       marks = ms;
       kept = kept;
-      law = c.runs-by-law.ensures.law _ _ kept;
-      closes = c.runs-by-law.ensures.closes c.args.number count _ kept;
+      law = c.runs_by_law.ensures.law _ _ kept;
+      closes = c.runs_by_law.ensures.closes c.args.number count _ kept;
     }

@@ -7,19 +7,19 @@ use Rattle.sheet_register.proofs.Steps.{marks_are, docket_inside, docket_fits, s
 use Rattle.sheets.specs.Views.{open_view, one_less, docket_view, memory}
 use Rattle.sheets.proofs.sheet.OpenSheet.strike.Goals as goal
 
-pub set-mark-requires : goal.set-mark-requires
-set-mark-requires c =
+pub set_mark-requires : goal.set_mark-requires
+set_mark-requires c =
     let s = c.args.self.now in
     let q = c.args.queue.now in
-    let e = c.in-ok-piece.ensures in
+    let e = c.in_ok-piece.ensures in
     let inside = docket_inside s.number (open_view s).counts c.args.marks.now (waiting q) (room q) e.0 (docket_view c.args.docket) e.1 in
     omega (arith, e.2)
 
-pub overflow-add-self : goal.overflow-add-self
-overflow-add-self c =
+pub overflow_add-self : goal.overflow_add-self
+overflow_add-self c =
     let s = c.args.self.now in
     let q = c.args.queue.now in
-    let e = c.in-ok-piece.ensures in
+    let e = c.in_ok-piece.ensures in
     let few = docket_fits s.number (open_view s).counts c.args.marks.now (waiting q) (room q) e.0 (docket_view c.args.docket) e.1 in
     omega (arith, ap (λ v. v.counts.struck) e.3)
 
@@ -33,12 +33,12 @@ returns c =
     let q = c.args.queue.now in
     let ms = c.args.marks.now in
     let d = docket_view c.args.docket in
-    let e = c.in-ok-piece.ensures in
+    let e = c.in_ok-piece.ensures in
     let did = struck_by s.number (open_view s).counts ms (waiting q) (room q) e.0 d e.1 _ _ refl refl in
     record {
       did =
-          marks_are c.set-mark.ensures
-          (subst (λ v. Did (strike d) (open_view s) (memory ms q) accepted (one_struck v) (memory (set ms c.in-ok-piece.piece struck) q)) (sym e.3)
+          marks_are c.set_mark.ensures
+          (subst (λ v. Did (strike d) (open_view s) (memory ms q) accepted (one_struck v) (memory (set ms c.in_ok-piece.piece struck) q)) (sym e.3)
           (subst (λ p. Did (strike d) (open_view s) (memory ms q) accepted (one_struck (one_less (open_view s))) (memory (set ms p struck) q)) (sym e.2) did));
       back = tt;
     }
