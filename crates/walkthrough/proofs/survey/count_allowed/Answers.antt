@@ -3,8 +3,8 @@ use Rattle.ranges.proofs.Sums.{sum_more, sum_bound, count_bound}
 use Rattle.walkthrough.specs.Survey.{allows, row_allowed}
 use Rattle.walkthrough.proofs.survey.count_allowed.Goals as goal
 
-pub overflow-add-seen : goal.overflow-add-seen
-overflow-add-seen g c =
+pub overflow_add-seen : goal.overflow_add-seen
+overflow_add-seen g c =
     let t = g.B.CostBook.means c.args.book.now in
     let few = (g.met.B.CostBook.sound c.args.book.now).few in
     let rows = sum_bound c.loop-i.i 256 (λ i. row_allowed t i t.count) (λ k h. let b = count_bound t.count (allows t k) in omega arith) in
