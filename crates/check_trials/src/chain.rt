@@ -3,6 +3,7 @@ use crate::sheets::*;
 use slips::fault::SlipFault;
 use slips::slip::PRICED;
 use std::alloc::{AllocError, Global};
+use std::test::Fail;
 
 // The innermost group around a piece: 1 for 0, 1 and 2, 2 for 3 and 4, and so on, none for 255.
 fn innermost(u: u16) -> u16 {

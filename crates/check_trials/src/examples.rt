@@ -4,6 +4,7 @@ use slips::fault::SlipFault;
 use slips::slip::*;
 use std::alloc::Global;
 use std::process::Abort;
+use std::test::Fail;
 
 #[derive(Clone, Copy)]
 pub enum Example {

@@ -2,6 +2,7 @@
 use crate::examples::*;
 use crate::sheets::*;
 use slips::fault::SlipFault;
+use std::test::Fail;
 
 #[test]
 fn a_gap_slip_that_says_more_fails(rt: HostRuntime) -> Result<(), Fail> {

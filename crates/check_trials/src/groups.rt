@@ -3,6 +3,7 @@ use crate::examples::*;
 use crate::sheets::*;
 use slips::fault::SlipFault;
 use slips::slip::MOST_PRICE;
+use std::test::Fail;
 
 #[test]
 fn the_count_has_a_limit(rt: HostRuntime) -> Result<(), Fail> {

@@ -3,6 +3,7 @@ use crate::examples::*;
 use crate::sheets::*;
 use slips::fault::SlipFault;
 use slips::slip::MOST_PRICE;
+use std::test::Fail;
 
 #[test]
 fn the_first_test_that_fails_is_told(rt: HostRuntime) -> Result<(), Fail> {

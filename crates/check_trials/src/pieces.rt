@@ -3,6 +3,7 @@ use crate::examples::*;
 use crate::sheets::*;
 use slips::fault::SlipFault;
 use slips::slip::MOST_PRICE;
+use std::test::Fail;
 
 #[test]
 fn a_mate_has_to_be_another_that_names_back(rt: HostRuntime) -> Result<(), Fail> {

@@ -3,6 +3,7 @@ use crate::examples::*;
 use crate::sheets::*;
 use slips::fault::SlipFault;
 use slips::slip::MOST_PRICE;
+use std::test::Fail;
 
 #[test]
 fn a_margin_below_0_and_one_of_mates_above_0(rt: HostRuntime) -> Result<(), Fail> {

@@ -2,6 +2,7 @@
 use crate::examples::*;
 use crate::sheets::*;
 use slips::fault::SlipFault;
+use std::test::Fail;
 
 #[test]
 fn other_lengths_and_kinds_are_told(rt: HostRuntime) -> Result<(), Fail> {

@@ -2,6 +2,7 @@
 use crate::examples::*;
 use crate::sheets::*;
 use slips::fault::SlipFault;
+use std::test::Fail;
 
 #[test]
 fn the_worked_slips_pass(rt: HostRuntime) -> Result<(), Fail> {

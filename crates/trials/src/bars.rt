@@ -6,6 +6,7 @@ use books::book::CostBook;
 use books::fault::BookFault;
 use list_book::list::ListBook;
 use std::alloc::{AllocError, AllocFailed, Global};
+use std::test::Fail;
 
 // A layer over 256 pieces of which the first 255 lines pair piece 0.
 fn layer_of(heap: Global) -> Result<BarLayer<ListBook>, AllocError> {

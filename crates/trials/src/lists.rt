@@ -6,6 +6,7 @@ use books::refusal::Refusal;
 use list_book::line::Line;
 use list_book::list::ListBook;
 use std::alloc::{AllocError, Global};
+use std::test::Fail;
 
 fn line(lower: usize, higher: usize, cost: u32) -> Line {
     Line {

@@ -8,6 +8,7 @@ use books::book::CostBook;
 use books::fault::BookFault;
 use list_book::list::ListBook;
 use std::alloc::{AllocError, Global};
+use std::test::Fail;
 
 // 256 pieces, of which the first 255 lines pair piece 0.
 fn book_of(heap: Global) -> Result<ListBook, AllocError> {

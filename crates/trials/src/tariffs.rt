@@ -4,6 +4,7 @@ use books::book::CostBook;
 use books::fault::BookFault;
 use books::refusal::Refusal;
 use std::alloc::{AllocError, Global};
+use std::test::Fail;
 use tariff_book::piece::Piece;
 use tariff_book::tariff::TariffBook;
 use tariff_book::terms::Terms;
