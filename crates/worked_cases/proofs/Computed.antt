@@ -1,7 +1,7 @@
 -- The test of a whole table of cases, and what a table that passes it says of each.
 use Rattle.std.proofs.Common.{◌≡◌, ℕ, Bool, true, false, ◌&&◌, eqb, List, [], ◌∷◌, get_or, Some, None, Option, refl, ap, arith}
 use Rattle.std.proofs.lemmas.Bool.{and_parts, eqb-true}
-use Rattle.std.specs.List.{AllByRecursion as All}
+use Rattle.std.specs.List.{AllByRecursion}
 use Rattle.tariff_book.specs.Duties.{pieces_cost}
 use Rattle.slips.specs.declared.fault.SlipFault.{SlipFault}
 use Rattle.slips.specs.declared.fault.SlipFault.TheVariants.{Shape, Piece, Group, Prices, Crossing, Total, Gap}
@@ -75,10 +75,10 @@ abbrev all_hold : List Case → Bool
 all_hold [] = true
 all_hold (c ∷ cs) = holds c && all_hold cs
 
-all_hold_is : (cs : List Case) → all_hold cs ≡ true → All Holds cs
+all_hold_is : (cs : List Case) → all_hold cs ≡ true → AllByRecursion Holds cs
 all_hold_is [] e = tt
 all_hold_is (c ∷ cs) e = let p = and_parts (holds c) (all_hold cs) e in (holds_is c p.0, all_hold_is cs p.1)
 
-pub worked_hold : All Holds worked
+pub worked_hold : AllByRecursion Holds worked
 unfolding verdict priced_fault gap_fault
 worked_hold = all_hold_is worked refl

@@ -2,13 +2,13 @@
 #![tactic(auto)]
 
 ghost use Rattle.std.specs.Prelude.{◌≡◌, length};
-ghost use Rattle.std.specs.List.{AllByRecursion as All};
+ghost use Rattle.std.specs.List.{AllByRecursion};
 ghost use Rattle.worked_cases.specs.Cases.{Holds, worked};
 
 // How many examples the table has; the rules give each of them the answer that stands beside it.
 pub fn worked_cases() -> usize
     ensures number { result ≡ length worked }
-    ensures hold { All Holds worked }
+    ensures hold { AllByRecursion Holds worked }
 {
     13
 }
