@@ -3,19 +3,12 @@ use Rattle.books.specs.declared.refusal.Refusal.{Refusal}
 use Rattle.books.specs.Refusals.{told_plain, told_naming, told_naming_two}
 use Rattle.slips.specs.Fault.{slip_refusal}
 use Rattle.sheet_faults.specs.declared.OpenFault.{OpenFault}
-use Rattle.sheet_faults.specs.declared.OpenFault.TheVariants as OpenFault
 use Rattle.sheet_faults.specs.declared.PostFault.{PostFault}
-use Rattle.sheet_faults.specs.declared.PostFault.TheVariants as PostFault
 use Rattle.sheet_faults.specs.declared.TakeFault.{TakeFault}
-use Rattle.sheet_faults.specs.declared.TakeFault.TheVariants as TakeFault
 use Rattle.sheet_faults.specs.declared.DocketCause.{DocketCause}
-use Rattle.sheet_faults.specs.declared.DocketCause.TheVariants as DocketCause
 use Rattle.sheet_faults.specs.declared.RestoreFault.{RestoreFault}
-use Rattle.sheet_faults.specs.declared.RestoreFault.TheVariants as RestoreFault
 use Rattle.sheet_faults.specs.declared.CloseCause.{CloseCause}
-use Rattle.sheet_faults.specs.declared.CloseCause.TheVariants as CloseCause
 use Rattle.sheet_faults.specs.declared.CheckFault.{CheckFault}
-use Rattle.sheet_faults.specs.declared.CheckFault.TheVariants as CheckFault
 
 abbrev pub open_refusal : OpenFault → Refusal
 open_refusal OpenFault.Disagrees = told_plain 11

@@ -7,7 +7,7 @@ use Rattle.books.specs.declared.refusal.Refusal.{Refusal}
 use Rattle.slips.specs.declared.fault.SlipFault.{SlipFault}
 use Rattle.sheet_register.specs.declared.request.Request.{Request}
 use Rattle.sheet_register.specs.Memory.{free, taken, struck, mark, marked}
-use Rattle.sheet_register.specs.Calls.{DocketView, CallOnOpen, post, take, strike, decline, restore, close, Answer, accepted, given, stale, refused, is_refused, disagreed, is_out, nothing, told, open_answer, marks_after, waiting_after}
+use Rattle.sheet_register.specs.Calls.{CallOnOpen, post, take, strike, decline, restore, close, Answer, accepted, given, stale, refused, is_refused, disagreed, is_out, nothing, told, open_answer, marks_after, waiting_after}
 use Rattle.sheet_register.specs.Register.{Register}
 use Rattle.sheet_register.specs.Runs.{Event}
 use Rattle.sheet_register.specs.Law.{posts, spends, if_accepted, takes, gives, times, out_for, gathered, Accounts}

@@ -1,9 +1,9 @@
 -- When memory agrees with what a sheet counts.
-use Rattle.std.proofs.Common.{◌≡◌, ℕ, ◌<◌, Bool, true, false, cond, ◌&&◌, eqb, ltb, List, [], ◌∷◌, length, sym, refl, ap, ◌∙◌}
-use Rattle.std.proofs.lemmas.Bool.{and_left, and_right, and_from, and_parts, eqb-true, ne_eqb, eq-eqb, ltb-true}
+use Rattle.std.proofs.Common.{◌≡◌, ℕ, ◌<◌, Bool, true, false, eqb, ltb, List, ◌∷◌, length, sym, refl, ap, ◌∙◌}
+use Rattle.std.proofs.lemmas.Bool.{and_left, and_right, and_parts, eqb-true, ne_eqb, eq-eqb, ltb-true}
 use Rattle.books.specs.Table.{Table}
 use Rattle.sheet_register.specs.declared.request.Request.{Request}
-use Rattle.sheet_register.specs.Memory.{taken, struck, marked, each, Counts, counted, marks_agree, agrees}
+use Rattle.sheet_register.specs.Memory.{taken, struck, marked, each, Counts, marks_agree, agrees}
 use Rattle.sheet_register.specs.Calls.{fits}
 
 pub same_counts : {a a' b b' d d' e e' : ℕ} → a ≡ a' → b ≡ b' → d ≡ d' → e ≡ e' → ◌≡◌ {A = Counts} (record { pieces = a; taken = b; struck = d; waiting = e }) (record { pieces = a'; taken = b'; struck = d'; waiting = e' })

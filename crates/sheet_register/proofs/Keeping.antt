@@ -1,14 +1,12 @@
 -- A call that is not refused leaves memory that agrees with its own counts, and a close leaves nothing open.
-use Rattle.std.proofs.Common.{◌≡◌, ℕ, ◌<◌, ◌≤◌, Bool, true, false, cond, ◌&&◌, eqb, ltb, List, [], ◌∷◌, ◌++◌, length, set, replicate, sym, refl, ap, ◌∙◌, arith, length-set}
+use Rattle.std.proofs.Common.{◌≡◌, ℕ, ◌≤◌, Bool, true, false, cond, ◌&&◌, eqb, ltb, List, [], ◌∷◌, length, set, replicate, sym, refl, ap, ◌∙◌, arith, length-set}
 use lib.ListN.{length-replicate}
-use Rattle.std.proofs.lemmas.Bool.{and_parts, true≢false, false≢true, cases_Bool, eqb-true, leb-true, ltb-true, cond-false}
+use Rattle.std.proofs.lemmas.Bool.{and_parts, true≢false, false≢true, eqb-true, leb-true, ltb-true}
 use Rattle.books.specs.declared.refusal.Refusal.{Refusal}
-use Rattle.slips.specs.Problem.{live_by}
 use Rattle.sheet_register.specs.declared.request.Request.{Request}
 use Rattle.sheet_register.specs.Memory.{free, taken, struck, mark, marked, each, counted, agrees}
-use Rattle.sheet_register.specs.Calls.{DocketView, CallOnOpen, post, take, strike, decline, restore, close, Answer, accepted, given, stale, refused, is_refused, nothing, open_answer, marks_after, waiting_after, open_after}
-use Rattle.sheet_register.specs.Register.{Register, opening}
-use Rattle.sheet_register.specs.Runs.{State}
+use Rattle.sheet_register.specs.Calls.{CallOnOpen, post, take, strike, decline, restore, close, accepted, refused, is_refused, nothing, open_answer, marks_after, waiting_after, open_after}
+use Rattle.sheet_register.specs.Register.{opening}
 use Rattle.sheet_register.specs.Law.{Settled, Kept}
 use Rattle.sheet_register.proofs.Marks.{each_set, each_push, each_replicate, none_marked, free_only}
 use Rattle.sheet_register.proofs.Agreement.{agreed, agreeing, same_counts}

@@ -1,8 +1,8 @@
 -- Facts on marks and on tests of each of a list.
-use Rattle.std.proofs.Common.{◌≡◌, ℕ, zero, suc, ◌+◌, ◌<◌, ◌≤◌, Bool, true, false, cond, ◌&&◌, eqb, List, [], ◌∷◌, ◌++◌, length, get_or, take, set, replicate, count_by, sym, refl, ap, ◌∙◌, arith, length-take}
+use Rattle.std.proofs.Common.{◌≡◌, ℕ, zero, suc, ◌+◌, ◌<◌, ◌≤◌, Bool, true, false, cond, eqb, List, [], ◌∷◌, ◌++◌, length, take, set, replicate, sym, refl, ap, ◌∙◌, arith, length-take}
 use Rattle.std.proofs.lemmas.List.Sums.{sum_by-cons, sum_by_more, sum_by-set, count_by-le-length}
-use Rattle.std.proofs.lemmas.Bool.{and_from, and_parts, eq-eqb, eqb-true, ne_eqb}
-use Rattle.sheet_register.specs.Memory.{free, taken, struck, mark, marked, each}
+use Rattle.std.proofs.lemmas.Bool.{and_from, and_parts, eq-eqb}
+use Rattle.sheet_register.specs.Memory.{free, mark, marked, each}
 
 pub each_set : {X : Type 0} (p : X → Bool) (xs : List X) (i : ℕ) (x : X) → each p xs ≡ true → p x ≡ true → each p (set xs i x) ≡ true
 each_set p [] i x e f = refl

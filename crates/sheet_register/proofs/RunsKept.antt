@@ -1,5 +1,5 @@
 -- Along every run the sheet and its memory are as the register says.
-use Rattle.std.proofs.Common.{◌≡◌, ℕ, ◌+◌, Bool, true, false, cond, not, ◌&&◌, eqb, ltb, ◌⊎◌, List, [], ◌∷◌, ◌++◌, map, length, replicate, Some, None, Option, sym, refl, ap, ◌∙◌, subst, ⊎_elim, append-nil, arith}
+use Rattle.std.proofs.Common.{◌≡◌, ℕ, Bool, true, false, cond, ◌&&◌, eqb, ltb, ◌⊎◌, List, [], ◌∷◌, ◌++◌, map, length, Some, None, Option, sym, refl, ap, ◌∙◌, subst, ⊎_elim, append-nil, arith}
 use Rattle.std.proofs.lemmas.Bool.{true≢false, cases_Bool, cases_eq, ne_eqb, cond-true, cond-false, and_from, eq-eqb}
 use Rattle.books.specs.declared.refusal.Refusal.{Refusal}
 use Rattle.books.specs.Table.{Table, Sound}
@@ -9,11 +9,11 @@ use Rattle.slips.specs.View.{View}
 use Rattle.slips.specs.Verdict.{verdict}
 use Rattle.slips.specs.Worth.{VerdictsByLaw}
 use Rattle.sheet_register.specs.declared.request.Request.{Request}
-use Rattle.sheet_register.specs.Memory.{free, taken, struck, mark, marked, counted, agrees, marks_agree}
-use Rattle.sheet_register.specs.Calls.{Memory, CallOnOpen, post, take, strike, decline, restore, close, Call, on_open, check, reopen, Answer, accepted, given, stale, refused, disagreed, is_refused, is_out, nothing, told, fits, open_answer, answer_by, marks_after, waiting_after, open_after}
+use Rattle.sheet_register.specs.Memory.{free, taken, struck, mark, marked, counted, agrees}
+use Rattle.sheet_register.specs.Calls.{Memory, CallOnOpen, post, take, strike, decline, restore, close, Call, on_open, check, reopen, Answer, accepted, given, stale, refused, disagreed, is_refused, is_out, nothing, told, fits, open_answer, answer_by, marks_after, waiting_after}
 use Rattle.sheet_register.specs.Register.{Register, opening, right_answer, changed, fed, allows}
-use Rattle.sheet_register.specs.Runs.{State, Did, Move, with_own, with_other, checking, reopening, Event, Run, done, next}
-use Rattle.sheet_register.specs.Law.{Settled, Kept, Judged, NotDisagreed, Shown, Accounts, if_accepted, posts, spends, takes, gives, Held, after, Law, RunsByLaw, NothingLeft, ClosesByLaw, posted, withdrawn, dockets, spent, times, out_for}
+use Rattle.sheet_register.specs.Runs.{State, Did, Move, with_own, with_other, checking, reopening, Event, done, next}
+use Rattle.sheet_register.specs.Law.{Kept, Judged, Accounts, takes, gives, after, RunsByLaw, ClosesByLaw, withdrawn, out_for}
 use Rattle.sheet_register.proofs.Marks.{none_marked, inside, free_only}
 use Rattle.sheet_register.proofs.Agreement.{agreed, marks_agreeing}
 use Rattle.sheet_register.proofs.Keeping.{lawful, agrees_after, settled_after}

@@ -1,12 +1,12 @@
 -- What each call on an open sheet does, over plain values: its refusals, and where it is not refused the memory and the counts after it.
-use Rattle.std.proofs.Common.{◌≡◌, ℕ, ◌+◌, ◌-◌, ◌<◌, ◌≤◌, Bool, true, false, cond, ◌&&◌, eqb, ltb, ◌⊎◌, List, [], ◌∷◌, ◌++◌, length, set, sym, refl, ap, ◌∙◌, subst, inl, inr, ⊎_elim, arith, length-set}
+use Rattle.std.proofs.Common.{◌≡◌, ℕ, ◌+◌, ◌-◌, ◌<◌, ◌≤◌, true, false, cond, ◌&&◌, eqb, ltb, ◌⊎◌, List, [], ◌∷◌, ◌++◌, length, set, sym, refl, ap, ◌∙◌, subst, ⊎_elim, arith, length-set}
 use Rattle.std.proofs.lemmas.List.Sums.{count_by-le-length}
 use Rattle.std.proofs.lemmas.Bool.{and_left, and_right, and_from, and_parts, eq-eqb, eqb-true, ne_eqb, cond-true, cond-false, lt-ltb, le-ltb}
 use Rattle.books.specs.declared.refusal.Refusal.{Refusal}
 use Rattle.books.specs.Refusals.{told_plain, told_naming, told_naming_two}
 use Rattle.sheet_register.specs.declared.request.Request.{Request}
-use Rattle.sheet_register.specs.Memory.{free, taken, struck, mark, marked, each, Counts, agrees}
-use Rattle.sheet_register.specs.Calls.{DocketView, Memory, CallOnOpen, post, take, strike, decline, restore, close, on_open, Answer, accepted, given, stale, refused, disagreed, is_refused, is_out, nothing, open_answer, answer_by, marks_after, waiting_after}
+use Rattle.sheet_register.specs.Memory.{free, taken, struck, mark, marked, Counts, agrees}
+use Rattle.sheet_register.specs.Calls.{DocketView, Memory, CallOnOpen, post, take, strike, decline, restore, close, on_open, Answer, accepted, given, stale, refused, disagreed, is_out, nothing, open_answer, answer_by, marks_after, waiting_after}
 use Rattle.sheet_register.specs.Runs.{SheetView, Did}
 use Rattle.sheet_register.proofs.Marks.{marked_set, inside}
 use Rattle.sheet_register.proofs.Agreement.{same_counts, Agreed, agreed, first_named}

@@ -1,8 +1,6 @@
 -- The law over runs: along every run the sheet and its memory are as the register says, and every answer is right by it.
-use Rattle.std.specs.Prelude.{◌≡◌, ℕ, ◌+◌, Bool, true, false, cond, List, [], ◌∷◌, ◌++◌, map, length, count_by, ◌==◌, ◌≢◌, nat_eq}
-use Rattle.books.specs.Table.{Table}
+use Rattle.std.specs.Prelude.{◌≡◌, ℕ, ◌+◌, true, false, cond, List, [], ◌∷◌, ◌++◌, map, length, count_by, ◌==◌, ◌≢◌, nat_eq}
 use Rattle.slips.specs.Problem.{problem, live_by}
-use Rattle.slips.specs.View.{View}
 use Rattle.slips.specs.Worth.{Least, Barren}
 use Rattle.sheet_register.specs.declared.request.Request.{Request}
 use Rattle.sheet_register.specs.Memory.{free, taken, mark, marked, counted, agrees}

@@ -1,5 +1,5 @@
 -- The memory that is handed to a sheet: marks and waiting requests, and when they agree with what the sheet counts.
-use Rattle.std.specs.Prelude.{◌≡◌, ℕ, ◌<◌, Bool, true, ◌&&◌, List, [], ◌∷◌, length, count_by, ◌==◌, nat_eq, nat_lt, slice_index_or}
+use Rattle.std.specs.Prelude.{ℕ, Bool, true, ◌&&◌, List, [], ◌∷◌, length, count_by, ◌==◌, nat_eq, nat_lt, slice_index_or}
 use Rattle.sheet_register.specs.declared.request.Request.{Request}
 
 -- the marks of a piece, as bytes: free, withdrawal taken, struck; what is handed in may hold any byte

@@ -1,5 +1,5 @@
 -- The register of a sheet. It is fed what each call is handed, refused calls too, and no answers.
-use Rattle.std.specs.Prelude.{ℕ, Bool, true, cond, not, List, [], ◌∷◌, replicate}
+use Rattle.std.specs.Prelude.{ℕ, Bool, true, cond, not, List, [], replicate}
 use Rattle.sheet_register.specs.declared.request.Request.{Request}
 use Rattle.sheet_register.specs.Memory.{free, counted}
 use Rattle.sheet_register.specs.Calls.{Call, on_open, check, reopen, Answer, is_refused, answer_by, marks_after, waiting_after, open_after}

@@ -1,5 +1,5 @@
 -- One call more at the end of a run.
-use Rattle.std.proofs.Common.{◌≡◌, true, List, [], ◌∷◌, ◌++◌, sym, refl, ap, ◌∙◌, subst, append-nil}
+use Rattle.std.proofs.Common.{◌≡◌, true, List, [], ◌∷◌, ◌++◌, sym, subst, append-nil}
 use Rattle.books.specs.Table.{Table}
 use Rattle.sheet_register.specs.Calls.{Memory}
 use Rattle.sheet_register.specs.Register.{allows}
@@ -9,7 +9,7 @@ use Rattle.sheets.specs.declared.serve.Call.{Call}
 use Rattle.sheets.specs.declared.serve.Answer.{Answer}
 use Rattle.sheets.specs.Views.{state}
 use Rattle.sheets.specs.Served.{Served, moved, came_back}
-use Rattle.sheet_runs.specs.Ran.{events_of, Made, none, more, Ran}
+use Rattle.sheet_runs.specs.Ran.{events_of, none, more, Ran}
 
 run_push : {w w₁ w₂ : State} {es : List Event} (e : Event) → Run w es w₁ → allows w₁.sheet.is_open e.call ≡ true → Move w₁ e.call e.answer w₂ → Run w (es ++ e ∷ []) w₂
 run_push e done a m = next a m done

@@ -1,6 +1,6 @@
 -- One call for any call, from the contracts of the calls.
-use Rattle.std.proofs.Common.{◌≡◌, ℕ, Bool, true, false, cond, not, List, [], ◌∷◌, set, is_ok, IfErr, Some, Ok, Err, Result, sym, refl, ap, ◌∙◌, subst, inl, inr, Bor}
-use Rattle.std.proofs.lemmas.Bool.{true≢false, false≢true, not-true}
+use Rattle.std.proofs.Common.{◌≡◌, Bool, true, false, cond, not, List, [], ◌∷◌, set, is_ok, IfErr, Some, Ok, Err, Result, sym, refl, ap, ◌∙◌, subst, inl, inr, Bor}
+use Rattle.std.proofs.lemmas.Bool.{false≢true, not-true}
 use Rattle.books.specs.declared.refusal.Refusal.{Refusal}
 use Rattle.books.specs.Table.{Table, Sound}
 use Rattle.slips.specs.declared.slip.Slip.{Slip}
@@ -15,12 +15,10 @@ use Rattle.sheets.specs.declared.sheet.Docket.{Docket}
 use Rattle.sheets.specs.declared.faults.DocketFault.{DocketFault}
 use Rattle.sheets.specs.declared.serve.Sheet.{Sheet}
 use Rattle.sheets.specs.declared.serve.OpenCall.{OpenCall}
-use Rattle.sheets.specs.declared.serve.OpenCall.TheVariants as OpenCall
 use Rattle.sheets.specs.declared.serve.Call.{Call}
-use Rattle.sheets.specs.declared.serve.Call.TheVariants as Call
 use Rattle.sheets.specs.declared.serve.Answer.{Answer}
 use Rattle.sheets.specs.Answers.{answer, docket_told}
-use Rattle.sheets.specs.Served.{Served, sheet_view, moved, came_back, open_call, call_view, answer_view, dockets_in, docket_of, dockets_back, is_accepted, request_of, request_in, written, records_after}
+use Rattle.sheets.specs.Served.{Served, sheet_view, moved, open_call, answer_view, docket_of, dockets_back, is_accepted, request_of, request_in, written, records_after}
 
 pub cond_same : {X : Type 0} (b : Bool) (x : X) → cond b x x ≡ x
 cond_same true x = refl

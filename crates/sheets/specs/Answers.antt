@@ -4,12 +4,10 @@ use Rattle.books.specs.declared.refusal.Refusal.{Refusal}
 use Rattle.sheet_register.specs.Calls.{Answer, accepted, given, stale, refused}
 use Rattle.sheet_register.specs.Runs.{SheetView}
 use Rattle.sheets.specs.declared.sheet.ClosedSheet.{ClosedSheet}
-use Rattle.sheets.specs.declared.sheet.Docket.{Docket}
 use Rattle.sheets.specs.declared.faults.DocketFault.{DocketFault}
 use Rattle.sheets.specs.declared.faults.CloseFault.{CloseFault}
 use Rattle.sheet_faults.specs.declared.TakeFault.{TakeFault}
 use Rattle.sheets.specs.declared.sheet.open.Taken.{Taken}
-use Rattle.sheets.specs.declared.sheet.open.Taken.TheVariants as Taken
 use Rattle.sheet_faults.specs.Faults.{take_refusal, docket_refusal, close_refusal}
 use Rattle.sheets.specs.Views.{docket_view, open_view, closed_view}
 

@@ -13,11 +13,8 @@ use Rattle.sheets.specs.declared.sheet.Docket.{Docket}
 use Rattle.sheets.specs.declared.serve.Sheet.{Sheet}
 use Rattle.sheets.specs.declared.serve.Sheet.TheVariants.{Open, Closed}
 use Rattle.sheets.specs.declared.serve.OpenCall.{OpenCall}
-use Rattle.sheets.specs.declared.serve.OpenCall.TheVariants as OpenCall
 use Rattle.sheets.specs.declared.serve.Call.{Call}
-use Rattle.sheets.specs.declared.serve.Call.TheVariants as Call
 use Rattle.sheets.specs.declared.serve.Answer.{Answer}
-use Rattle.sheets.specs.declared.serve.Answer.TheVariants as Answer
 use Rattle.sheets.specs.Views.{docket_view, open_view, closed_view, state}
 
 abbrev pub sheet_view : Sheet → SheetView

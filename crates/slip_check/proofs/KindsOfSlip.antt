@@ -1,5 +1,5 @@
 -- Which tests the verdict of a slip is, by its lengths and its kind.
-use Rattle.std.proofs.Common.{◌≡◌, ℕ, Bool, true, false, cond, eqb, List, Some, Option, sym, ap, ◌∙◌}
+use Rattle.std.proofs.Common.{◌≡◌, ℕ, Bool, true, false, List, Some, Option, sym, ap, ◌∙◌}
 use Rattle.std.proofs.lemmas.Bool.{eq-eqb, ne_eqb, cond-true, cond-false}
 use Rattle.books.specs.Table.{Table}
 use Rattle.slips.specs.declared.fault.SlipFault.{SlipFault}

@@ -1,5 +1,5 @@
 -- What the test of a live piece's record says; and a piece whose mate is lower: the pair was tested there, so it is allowed, and is not counted again.
-use Rattle.std.proofs.Common.{◌≡◌, ℕ, ◌<◌, ◌≤◌, Bool, true, false, cond, not, eqb, ltb, leb, List, [], length, is_some, sym, ap, ◌∙◌, subst, arith}
+use Rattle.std.proofs.Common.{◌≡◌, ℕ, ◌<◌, ◌≤◌, Bool, true, cond, leb, List, [], length, is_some, sym, ap, ◌∙◌, subst, arith}
 use Rattle.std.proofs.lemmas.Bool.{and_parts, and_from, eqb-true, lt-ltb, le-ltb, le-leb, cond-false, and_right}
 use Rattle.books.specs.Table.{Table, Sound}
 use Rattle.slips.specs.declared.slip.PieceRecord.{PieceRecord}

@@ -1,5 +1,5 @@
 -- Which pieces a group holds, and the prices between two pieces.
-use Rattle.std.specs.Prelude.{ℕ, zero, suc, ◌+◌, ◌*◌, Bool, false, cond, not, ◌&&◌, ◌||◌, ℤ, pos, ◌+ℤ◌, ◌-ℤ◌, ◌==◌}
+use Rattle.std.specs.Prelude.{ℕ, zero, suc, ◌*◌, Bool, false, cond, not, ◌&&◌, ◌||◌, ℤ, pos, ◌+ℤ◌, ◌-ℤ◌, ◌==◌}
 use Rattle.ranges.specs.Sums.{sum_below}
 use Rattle.slips.specs.Problem.{Problem, pence}
 use Rattle.slips.specs.View.{View, price, group, parent, worth}

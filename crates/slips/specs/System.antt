@@ -4,7 +4,7 @@ use Rattle.ranges.specs.Sums.{count_below}
 use Rattle.slips.specs.declared.slip.PieceRecord.{PieceRecord}
 use Rattle.slips.specs.declared.slip.GroupRecord.{GroupRecord}
 use Rattle.slips.specs.Problem.{Problem, Live, Allowed, pence, pairing_cost}
-use Rattle.slips.specs.View.{View, piece_at, mate, price, group, group_at, parent}
+use Rattle.slips.specs.View.{View, piece_at, mate, price, group, group_at}
 use Rattle.slips.specs.Groups.{inside, splits, price_side}
 
 -- f 0 + f 1 + .. + f (n - 1), over the integers

@@ -1,4 +1,4 @@
-use Rattle.std.proofs.Common.{◌≡◌, ◌+◌, ◌≤◌, false, Result, Ok, Err, List, [], ◌∷◌, ◌++◌, vec_items, vec_len, vec_capacity, deque_items, deque_len, sym, refl, ap, ◌∙◌, subst, append_assoc, append-nil, arith}
+use Rattle.std.proofs.Common.{◌≡◌, false, Result, Ok, Err, [], ◌∷◌, ◌++◌, deque_items, sym, refl, ap, ◌∙◌, subst, append_assoc, append-nil, arith}
 use Rattle.std.proofs.lemmas.List.{nil_from_length}
 use Rattle.std.specs.Result.{OnOk, is_err}
 use Rattle.sheets.specs.Views.{memory}

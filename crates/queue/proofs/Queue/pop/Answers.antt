@@ -1,4 +1,4 @@
-use Rattle.std.proofs.Common.{◌≡◌, ℕ, ◌+◌, ◌-◌, ◌<◌, ◌≤◌, List, [], ◌∷◌, length, get_or, sym, refl, ap, ◌∙◌, arith}
+use Rattle.std.proofs.Common.{◌+◌, ◌-◌, ◌<◌, ◌∷◌, get_or, sym, refl, ap, ◌∙◌, arith}
 use Rattle.queue.specs.Waiting.{cyclic, item}
 use Rattle.queue.proofs.Cyclic.{cyclic_pop, cyclic_none}
 use Rattle.queue.proofs.Queue.pop.Goals as goal

@@ -1,6 +1,6 @@
-use Rattle.std.proofs.Common.{◌≡◌, ◌+◌, ◌<◌, ◌≤◌, [], ◌∷◌, length, set, sym, refl, ap, ◌∙◌, arith, length-set}
+use Rattle.std.proofs.Common.{◌<◌, ◌≤◌, length, set, sym, refl, ap, ◌∙◌, arith, length-set}
 use Rattle.std.proofs.lemmas.Bool.{lt-ltb, le-ltb}
-use Rattle.queue.specs.Waiting.{cyclic, waiting, room, place}
+use Rattle.queue.specs.Waiting.{cyclic, waiting, place}
 use Rattle.queue.proofs.Cyclic.{cyclic_push, cyclic_length}
 use Rattle.queue.proofs.Queue.push.Goals as goal
 

@@ -1,4 +1,4 @@
-use Rattle.std.proofs.Common.{◌≡◌, ℕ, eqb, sym, ap, ◌∙◌}
+use Rattle.std.proofs.Common.{ℕ, eqb, sym, ap, ◌∙◌}
 use Rattle.sheet_register.specs.Memory.{Counts}
 use Rattle.sheet_register.proofs.Agreement.{no_pieces, no_lawful, no_taken, if_struck}
 use Rattle.sheets.proofs.memory.marks_agree.Goals as goal

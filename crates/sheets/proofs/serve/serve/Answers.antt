@@ -1,4 +1,4 @@
-use Rattle.std.proofs.Common.{◌≡◌, sym, refl, ap, ◌∙◌}
+use Rattle.std.proofs.Common.{sym, refl, ap, ◌∙◌}
 use Rattle.sheets.specs.declared.serve.Call.TheVariants as Call
 use Rattle.sheets.specs.declared.serve.Answer.TheVariants as Answer
 use Rattle.sheet_faults.specs.Faults.{check_refusal}

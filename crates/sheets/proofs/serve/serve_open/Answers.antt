@@ -1,9 +1,8 @@
-use Rattle.std.proofs.Common.{◌≡◌, sym, refl, ap, ◌∙◌}
-use Rattle.queue.specs.Waiting.{records}
+use Rattle.std.proofs.Common.{refl, ◌∙◌}
 use Rattle.sheets.specs.declared.serve.OpenCall.TheVariants as OpenCall
 use Rattle.sheet_faults.specs.Faults.{post_refusal, restore_refusal}
 use Rattle.sheets.specs.Answers.{answer, take_answer, docket_told, close_answer}
-use Rattle.sheets.specs.Views.{open_view, memory}
+use Rattle.sheets.specs.Views.{open_view}
 use Rattle.sheets.proofs.Serving.{leaving, on_open, none_back, docket_returned, posted_records, same_records}
 use Rattle.sheets.proofs.serve.serve_open.Goals as goal
 

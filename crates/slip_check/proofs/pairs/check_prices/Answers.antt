@@ -1,4 +1,4 @@
-use Rattle.std.proofs.Common.{◌≡◌, ℕ, length, Some, None, Option, sym, ap, ◌∙◌, arith}
+use Rattle.std.proofs.Common.{◌≡◌, ℕ, length, Some, Option, sym, ap, ◌∙◌, arith}
 use Rattle.slips.specs.declared.fault.SlipFault.TheVariants.{Prices}
 use Rattle.slips.specs.Problem.{problem}
 use Rattle.slips.specs.Verdict.{pair_good}

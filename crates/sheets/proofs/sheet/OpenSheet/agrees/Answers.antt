@@ -1,4 +1,4 @@
-use Rattle.std.proofs.Common.{◌≡◌, sym, ◌∙◌}
+use Rattle.std.proofs.Common.{sym, ◌∙◌}
 use Rattle.queue.specs.Waiting.{waiting}
 use Rattle.sheet_register.proofs.Agreement.{no_marks, no_waiting, if_named}
 use Rattle.sheets.specs.Views.{open_view}

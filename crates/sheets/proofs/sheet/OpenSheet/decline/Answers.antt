@@ -1,8 +1,8 @@
-use Rattle.std.proofs.Common.{◌≡◌, ◌+◌, ◌<◌, ◌≤◌, length, set, sym, refl, ap, subst, arith}
+use Rattle.std.proofs.Common.{set, sym, refl, subst, arith}
 use Rattle.queue.specs.Waiting.{waiting, room}
-use Rattle.sheet_register.specs.Memory.{free, struck}
+use Rattle.sheet_register.specs.Memory.{free}
 use Rattle.sheet_register.specs.Calls.{decline, accepted}
-use Rattle.sheet_register.specs.Runs.{SheetView, Did}
+use Rattle.sheet_register.specs.Runs.{Did}
 use Rattle.sheet_register.proofs.Steps.{marks_are, docket_inside, declined_by}
 use Rattle.sheets.specs.Views.{open_view, one_less, docket_view, memory}
 use Rattle.sheets.proofs.sheet.OpenSheet.decline.Goals as goal

@@ -1,4 +1,4 @@
-use Rattle.std.proofs.Common.{◌≡◌, sym, refl}
+use Rattle.std.proofs.Common.{sym, refl}
 use Rattle.queue.specs.Waiting.{waiting, room}
 use Rattle.sheet_register.proofs.Steps.{post_outside, post_full, posted}
 use Rattle.sheets.specs.Views.{open_view}

@@ -1,4 +1,4 @@
-use Rattle.std.proofs.Common.{◌≡◌, sym}
+use Rattle.std.proofs.Common.{sym}
 use Rattle.queue.specs.Waiting.{waiting, room}
 use Rattle.sheet_register.proofs.Steps.{marks_are, struck_some, restored}
 use Rattle.sheets.specs.Views.{open_view}

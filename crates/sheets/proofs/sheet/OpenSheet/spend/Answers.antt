@@ -1,4 +1,4 @@
-use Rattle.std.proofs.Common.{◌≡◌, sym, refl}
+use Rattle.std.proofs.Common.{sym}
 use Rattle.queue.specs.Waiting.{waiting, room}
 use Rattle.sheet_register.proofs.Steps.{docket_some}
 use Rattle.sheets.specs.Views.{open_view, docket_view}

@@ -1,6 +1,6 @@
-use Rattle.std.proofs.Common.{◌≡◌, ◌+◌, ◌<◌, ◌≤◌, length, set, sym, refl, ap, subst, arith}
+use Rattle.std.proofs.Common.{◌+◌, set, sym, refl, ap, subst, arith}
 use Rattle.queue.specs.Waiting.{waiting, room}
-use Rattle.sheet_register.specs.Memory.{free, struck}
+use Rattle.sheet_register.specs.Memory.{struck}
 use Rattle.sheet_register.specs.Calls.{strike, accepted}
 use Rattle.sheet_register.specs.Runs.{SheetView, Did}
 use Rattle.sheet_register.proofs.Steps.{marks_are, docket_inside, docket_fits, struck_by}

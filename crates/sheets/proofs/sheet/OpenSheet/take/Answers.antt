@@ -1,4 +1,4 @@
-use Rattle.std.proofs.Common.{◌≡◌, ◌+◌, ◌≤◌, length, sym, refl, ap, arith}
+use Rattle.std.proofs.Common.{length, sym, refl, ap, arith}
 use Rattle.queue.specs.Waiting.{waiting, room}
 use Rattle.sheet_register.proofs.Steps.{marks_are, first_inside, take_stale, take_given, taken_fits}
 use Rattle.sheets.specs.Views.{open_view}

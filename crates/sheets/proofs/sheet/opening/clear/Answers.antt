@@ -1,4 +1,4 @@
-use Rattle.std.proofs.Common.{◌≡◌, ◌<◌, ◌≢◌, length, get_or, replicate, sym, ◌∙◌, arith, below_more}
+use Rattle.std.proofs.Common.{◌<◌, ◌≢◌, length, replicate, sym, ◌∙◌, arith, below_more}
 use lib.ListN.{length-replicate}
 use Rattle.std.proofs.lemmas.List.{ext_get_or, get_or-replicate, get_or-set_same, get_or-set_other}
 use Rattle.sheet_register.specs.Memory.{free}
