@@ -5,7 +5,7 @@ use book_layers::bar::BarLayer;
 use books::book::CostBook;
 use books::fault::BookFault;
 use list_book::list::ListBook;
-use std::alloc::{AllocError, AllocFailed, Global};
+use std::alloc::{AllocError, Global};
 use std::test::Fail;
 
 // A layer over 256 pieces of which the first 255 lines pair piece 0.

@@ -2,7 +2,6 @@
 use books::fault::BookFault;
 use books::refusal;
 use books::refusal::Refusal;
-use std::test::Fail;
 
 // A refusal that names nothing.
 pub(crate) fn plain(number: u8) -> Option<Refusal> {
