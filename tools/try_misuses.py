@@ -19,31 +19,24 @@ def parts(edit):
         return {k: v for k, v in (line.rstrip("\n").split(": ", 1) for line in f if ": " in line)}
 
 
-def said(crate, path, text):
-    """What the check says of the crate with this text in place of the file's own."""
-    file = os.path.join(crate, path)
-    with open(file, encoding="utf-8") as f:
-        own = f.read()
-    try:
-        with open(file, "w", encoding="utf-8") as f:
-            f.write(text)
-        return subprocess.run(["rt", "check"], cwd=crate, stdin=subprocess.DEVNULL, capture_output=True, text=True)
-    finally:
-        with open(file, "w", encoding="utf-8") as f:
-            f.write(own)
-
-
 def tried(crate, edit):
     """Why the edit is not refused for its error, or None where it is."""
     p = parts(edit)
-    with open(os.path.join(crate, p["file"]), encoding="utf-8") as f:
+    file = os.path.join(crate, p["file"])
+    with open(file, encoding="utf-8") as f:
         own = f.read()
     if own.count(p["old"]) != 1:
         return f"its old text stands {own.count(p['old'])} times"
-    ran = said(crate, p["file"], own.replace(p["old"], p["new"]))
-    errors = re.findall(r"error\[([\w-]+)\]", ran.stdout + ran.stderr)
-    if ran.returncode == 0 or errors != [p["refused"]] * len(errors) or not errors:
-        return f"the check ended with {ran.returncode} and the errors {errors}"
+    try:
+        with open(file, "w", encoding="utf-8") as f:
+            f.write(own.replace(p["old"], p["new"]))
+        ran = subprocess.run(["rt", "check"], cwd=crate, stdin=subprocess.DEVNULL, capture_output=True, text=True)
+    finally:
+        with open(file, "w", encoding="utf-8") as f:
+            f.write(own)
+    errors = set(re.findall(r"error\[([\w-]+)\]", ran.stdout + ran.stderr))
+    if ran.returncode == 0 or errors != {p["refused"]}:
+        return f"the check ended with {ran.returncode} and the errors {sorted(errors)}"
     return None
 
 
