@@ -26,7 +26,3 @@ abbrev pub QuestionLaw : Table → ℕ → ℕ → Result (Option ℕ) BookFault
 QuestionLaw t i j (Ok c) =
     (i < t.count) × (j < t.count) × (asked t j i ≡ Ok c) × (i ≡ j → c ≡ None) × ((p : ℕ) → c ≡ Some p → p ≤ most_cost)
 QuestionLaw t i j (Err f) = (p : ℕ) × (f ≡ PieceOutside p) × FirstOutside t.count i j p
-
--- whatever is asked and answered keeps the law
-abbrev pub AnswersByLaw : Table → ℕ → ℕ → Type 0
-AnswersByLaw t i j = (r : Result (Option ℕ) BookFault) → r ≡ asked t i j → QuestionLaw t i j r

@@ -34,22 +34,21 @@ pub enum BookFault {
     NoMemory,
 }
 
-impl BookFault {
-    // The fault's number and what it names; number 0 is want of memory.
-    pub fn refusal(&self) -> Refusal
-        ensures { result ≡ refusal self.now }
-    {
-        match self {
+impl Refuses for BookFault {
+    ghost told = { refusal };
+
+    fn refusal(&self) -> Refusal {
+        match *self {
             BookFault::TooManyPieces => plain(1),
             BookFault::TooManyLines => plain(2),
-            BookFault::LineOutside(line) => naming(3, *line),
-            BookFault::LineOrder(line) => naming(4, *line),
-            BookFault::CostTooHigh(line) => naming(5, *line),
+            BookFault::LineOutside(line) => naming(3, line),
+            BookFault::LineOrder(line) => naming(4, line),
+            BookFault::CostTooHigh(line) => naming(5, line),
             BookFault::AmountTooHigh => plain(5),
-            BookFault::TermOutside(term) => naming(6, *term),
-            BookFault::RecordOutside(piece) => naming(7, *piece),
-            BookFault::PieceOutside(piece) => naming(8, *piece),
-            BookFault::EqualPieces(piece) => naming(9, *piece),
+            BookFault::TermOutside(term) => naming(6, term),
+            BookFault::RecordOutside(piece) => naming(7, piece),
+            BookFault::PieceOutside(piece) => naming(8, piece),
+            BookFault::EqualPieces(piece) => naming(9, piece),
             BookFault::BarsFull => plain(10),
             BookFault::NoMemory => plain(0),
         }

@@ -2,7 +2,7 @@
 ghost use Rattle.std.specs.Prelude.{◌≡◌};
 ghost use Rattle.books.specs.Refusals.{told_plain, told_naming, told_naming_two};
 
-// What a refusal names: nothing, one line, term, piece or group, or two of them.
+// What a refusal names: nothing, one line, term, piece or group, or two of them. No `Option`, since there are three cases.
 #[derive(Clone, Copy, PartialEq, Eq, Debug)]
 pub enum Named {
     Nothing,
@@ -10,10 +10,22 @@ pub enum Named {
     Two(usize, usize),
 }
 
+// How a fault is told outside: the numbers are those by which planners know the refusals.
 #[derive(Clone, Copy, PartialEq, Eq, Debug)]
 pub struct Refusal {
     pub number: u8,
     pub names: Named,
+}
+
+// A fault, by how it is told.
+pub trait Refuses {
+    ghost use Rattle.books.specs.declared.refusal.Refusal.{Refusal};
+
+    ghost told: { Self → Refusal };
+
+    // The fault's number and what it names; number 0 is want of memory.
+    fn refusal(&self) -> Refusal
+        ensures { result ≡ told self.now };
 }
 
 // A refusal that names nothing.

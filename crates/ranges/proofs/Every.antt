@@ -1,5 +1,5 @@
--- What a test of all numbers below a bound says of each, what makes it hold, and how a loop makes it.
-use Rattle.std.proofs.Common.{◌≡◌, ℕ, zero, suc, ◌+◌, ◌<◌, Bool, true, false, ◌&&◌, sym, refl, ap, ◌∙◌, ⊎_elim, add-one, arith}
+-- What a test of all numbers below a bound says of each, and what makes it hold.
+use Rattle.std.proofs.Common.{◌≡◌, ℕ, zero, suc, ◌<◌, Bool, true, false, ◌&&◌, refl, ap, ◌∙◌, ⊎_elim, arith}
 use mathlib.Core.Bool.{and-false}
 use Rattle.std.proofs.lemmas.Bool.{cases_eq, and_parts, and_from}
 use Rattle.ranges.specs.Every.{all_below}
@@ -16,10 +16,6 @@ pub all_from : (n : ℕ) (p : ℕ → Bool) → ((k : ℕ) → k < n → p k ≡
 all_from zero p h = refl
 all_from (suc n) p h = and_from (all_below n p) (p n) (all_from n p (λ k l. h k (omega arith))) (h n (omega arith))
 
--- one more that passes
-pub all_more : (p : ℕ → Bool) (k : ℕ) → all_below k p ≡ true → p k ≡ true → all_below (k + 1) p ≡ true
-all_more p k a b = ap (λ n. all_below n p) (add-one k) ∙ (ap (λ t. t && p k) a ∙ b)
-
 -- one that fails
 pub all_broken : (p : ℕ → Bool) (k n : ℕ) → k < n → p k ≡ false → all_below n p ≡ false
 all_broken p k zero h e = absurd (omega arith)
@@ -28,7 +24,3 @@ all_broken p k (suc n) h e =
     (λ (q : n ≡ k). ap (λ t. all_below n p && t) (ap p q ∙ e) ∙ and-false (all_below n p))
     (λ (q : n ≡ k → ⊥). ap (λ t. t && p n) (all_broken p k n (omega arith) e))
     (cases_eq n k)
-
--- what a loop that reaches the bound has tested
-pub all_tested : (p : ℕ → Bool) (k n : ℕ) → k ≡ n → all_below k p ≡ true → all_below n p ≡ true
-all_tested p k n e h = ap (λ m. all_below m p) (sym e) ∙ h

@@ -4,3 +4,4 @@ pub mod Every
 pub mod Sums
 pub mod Single
 pub mod Pairs
+pub mod Chains
