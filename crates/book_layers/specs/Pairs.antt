@@ -1,5 +1,6 @@
 -- Pairs of pieces, and which pairs a row holds.
-use Rattle.std.specs.Prelude.{ℕ, min, max, Bool, true, false, cond, not, ◌&&◌, ◌||◌, List, [], ◌∷◌, Some, None, Option, ◌==◌, slice_index_or}
+use Rattle.std.specs.Prelude.{ℕ, min, max, Bool, true, cond, not, ◌&&◌, List, [], ◌∷◌, Some, None, Option, ◌==◌, slice_index_or}
+use Rattle.std.specs.List.{list_any}
 use Rattle.books.specs.declared.fault.BookFault.{BookFault}
 use Rattle.books.specs.declared.fault.BookFault.TheVariants.{EqualPieces}
 use Rattle.ranges.specs.First.{or_else}
@@ -19,8 +20,7 @@ same_pair p q = p.lower == q.lower && p.higher == q.higher
 
 -- a row has a pair
 abbrev pub has : List Pair → Pair → Bool
-has [] q = false
-has (p ∷ ps) q = same_pair p q || has ps q
+has ps q = list_any (λ p. same_pair p q) ps
 
 -- a pair is of these two pieces, in either order
 abbrev pub is_pair : Pair → ℕ → ℕ → Bool

@@ -1,9 +1,7 @@
 // Layers over layers: each is a book like any other, so they pile in any order.
 ghost use Rattle.std.specs.Prelude.{◌≡◌};
 ghost use Rattle.books.specs.Asked.{asked};
-ghost use Rattle.book_layers.specs.Bars.{bar_table};
-ghost use Rattle.book_layers.specs.Surcharges.{surcharged};
-ghost use Rattle.book_layers.specs.Piles.{OrderFree};
+ghost use Rattle.book_layers.specs.Piles.{pile_means, PileOrderFree};
 
 use crate::bar::BarLayer;
 use crate::bar::calls::*;
@@ -18,8 +16,8 @@ pub fn cost_in_pile<B: CostBook>(
     i: usize,
     j: usize,
 ) -> Result<Option<u32>, BookFault>
-    ensures answer { result ≡ asked (bar_table (surcharged (bar_table (B.CostBook.means pile.now.below.below.below) pile.now.below.below.bars.items) pile.now.below.amount pile.now.below.marks) pile.now.bars.items) i j }
-    ensures order { OrderFree (B.CostBook.means pile.now.below.below.below) pile.now.bars.items pile.now.below.amount pile.now.below.marks }
+    ensures answer { result ≡ asked (pile_means B.CostBook.means pile.now) i j }
+    ensures order { PileOrderFree B.CostBook.means pile.now }
 {
     pile.cost(i, j)
 }

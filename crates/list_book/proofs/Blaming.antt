@@ -1,5 +1,5 @@
 -- A refused list is refused for the cause that its fault names.
-use Rattle.std.proofs.Common.{◌≡◌, ℕ, zero, suc, ◌+◌, ◌<◌, ◌≤◌, Bool, true, false, cond, ◌&&◌, ltb, leb, List, length, is_some, Some, None, Ok, Err, sym, refl, ap, subst, add-one, arith}
+use Rattle.std.proofs.Common.{◌≡◌, ℕ, zero, suc, ◌+◌, ◌<◌, ◌≤◌, Bool, true, false, cond, ◌&&◌, ltb, leb, List, length, Some, None, refl, subst, add-one, arith}
 use Rattle.std.proofs.lemmas.Bool.Decides.{nat_tests}
 use Rattle.std.proofs.lemmas.Bool.{leb-true, leb-false, both_ways}
 use Rattle.books.specs.declared.fault.BookFault.{BookFault}
@@ -9,8 +9,8 @@ use Rattle.ranges.proofs.Options.{none_some, same_some}
 use Rattle.ranges.proofs.First.{first_is}
 use Rattle.list_book.specs.declared.line.Line.{Line}
 use Rattle.list_book.specs.Lines.{most_lines, line, rises, before, fault_at, lines_fault, list_fault}
-use Rattle.list_book.specs.Listed.{AboveLast, Lowest, Blamed, TakenByLaw}
-use Rattle.list_book.specs.Lawful.{last_yes, good_at, list_answers}
+use Rattle.list_book.specs.Listed.{AboveLast, Lowest, Blamed}
+use Rattle.list_book.specs.Lawful.{last_yes, good_at}
 
 -- the line's own tests, by what they answer
 within_no : (n : ℕ) (l : Line) → (ltb l.lower l.higher && ltb l.higher n) ≡ false → (l.lower < l.higher) × (l.higher < n) → ⊥
@@ -46,7 +46,3 @@ by_sizes n ls f true true p q e = blamed_lines n ls f (leb-true n most_pieces p)
 
 pub list_blamed : (n : ℕ) (ls : List Line) (f : BookFault) → list_fault n ls ≡ Some f → Blamed n ls f
 list_blamed n ls f e = by_sizes n ls f (leb n most_pieces) (leb (length ls) most_lines) refl refl e
-
-pub taken_by_law : (n : ℕ) (ls : List Line) → TakenByLaw n ls
-taken_by_law n ls (Ok x) e = list_answers n ls (ap is_some (sym e))
-taken_by_law n ls (Err f) e = list_blamed n ls f (sym e)

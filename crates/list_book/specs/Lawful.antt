@@ -1,5 +1,5 @@
 -- A list without a fault is within its limits, rises, is a lawful table, and answers by its lines.
-use Rattle.std.specs.Prelude.{◌≡◌, ℕ, zero, suc, ◌+◌, ◌<◌, ◌≤◌, min, max, true, false, List, length, is_some, Some, None, Option, refl}
+use Rattle.std.specs.Prelude.{◌≡◌, ℕ, zero, suc, ◌+◌, ◌<◌, ◌≤◌, min, max, true, List, length, IsNone, Some, None, Option, refl}
 use Rattle.std.proofs.Common.{sym, ap, ◌∙◌, ⊎_elim, arith, add-one}
 use Rattle.std.proofs.lemmas.Bool.Decides.{nat_tests}
 use Rattle.std.proofs.lemmas.Bool.{cases_eq}
@@ -13,7 +13,7 @@ use Rattle.list_book.specs.Listed.{OnLine, Rising, AboveLast, Good, Lists}
 use Rattle.list_book.specs.Ascending.{precedes_on, precedes_off}
 
 -- a list without a fault has few pieces, few lines, and no faulty line
-pub list_parts : (n : ℕ) (ls : List Line) → is_some (list_fault n ls) ≡ false → (n ≤ most_pieces) × (length ls ≤ most_lines) × (lines_fault n ls ≡ None)
+pub list_parts : (n : ℕ) (ls : List Line) → IsNone (list_fault n ls) → (n ≤ most_pieces) × (length ls ≤ most_lines) × (lines_fault n ls ≡ None)
 list_parts n ls e = (grind (arith, nat_tests), grind (arith, nat_tests), none_is (lines_fault n ls) (grind (arith, nat_tests)))
 
 line_good : (n number : ℕ) (b : Option Line) (l : Line) → line_fault n number b l ≡ None → (l.lower < l.higher) × (l.higher < n) × (rises b l ≡ true) × (l.cost ≤ most_cost)
@@ -40,7 +40,7 @@ rising_by n ls good k (suc m) h l =
     (λ (q : k ≡ m → ⊥). precedes_on (line ls k) (line ls m) (line ls (suc m)).lower (line ls (suc m)).higher (rising_by n ls good k m (omega arith) (omega arith)) next)
     (cases_eq k m)
 
-pub list_rises : (n : ℕ) (ls : List Line) → is_some (list_fault n ls) ≡ false → Rising ls
+pub list_rises : (n : ℕ) (ls : List Line) → IsNone (list_fault n ls) → Rising ls
 list_rises n ls e = rising_by n ls (good_lines n ls (list_parts n ls e).2)
 
 same_line : (l : Line) (i j c : ℕ) → cost_on l i j ≡ Some c → l ≡ line_of i j c
@@ -66,7 +66,7 @@ found ls i j c up o =
     first_found (λ m. cost_on (line ls m) i j) k (length ls) c o.1 (first_absent (λ m. cost_on (line ls m) i j) k off) at
 
 -- the pieces and the cost of a line within its limits
-line_limits : (n : ℕ) (ls : List Line) (i j c : ℕ) → is_some (list_fault n ls) ≡ false → line_cost ls i j ≡ Some c → (i < j) × (j < n) × (c ≤ most_cost)
+line_limits : (n : ℕ) (ls : List Line) (i j c : ℕ) → IsNone (list_fault n ls) → line_cost ls i j ≡ Some c → (i < j) × (j < n) × (c ≤ most_cost)
 line_limits n ls i j c e f =
     let o = on_line ls i j c f in
     let g = good_lines n ls (list_parts n ls e).2 o.0 o.1 in
@@ -75,7 +75,7 @@ line_limits n ls i j c e f =
     let d : (line ls o.0).cost ≡ c = ap (λ (l : Line). l.cost) o.2 in
     (omega (arith, g.0.0), omega (arith, g.0.1), omega (arith, g.2))
 
-pub list_sound : (n : ℕ) (ls : List Line) → is_some (list_fault n ls) ≡ false → Sound (list_table n ls)
+pub list_sound : (n : ℕ) (ls : List Line) → IsNone (list_fault n ls) → Sound (list_table n ls)
 list_sound n ls e = record {
   few = (list_parts n ls e).0;
   even = λ i j. let a : min i j ≡ min j i = omega arith in let b : max i j ≡ max j i = omega arith in cc;
@@ -84,7 +84,7 @@ list_sound n ls e = record {
   low = λ i j c h. (line_limits n ls (min i j) (max i j) c e h).2;
 }
 
-pub list_answers : (n : ℕ) (ls : List Line) → is_some (list_fault n ls) ≡ false → Lists (list_table n ls) n ls
+pub list_answers : (n : ℕ) (ls : List Line) → IsNone (list_fault n ls) → Lists (list_table n ls) n ls
 list_answers n ls e =
     let up = list_rises n ls e in record {
       few = (list_parts n ls e).0;

@@ -1,12 +1,11 @@
 -- What a loaded list answers and why a list is refused, in the words of its lines.
-use Rattle.std.specs.Prelude.{◌≡◌, ℕ, ◌+◌, ◌<◌, ◌≤◌, min, max, true, false, List, length, Some, None, Result, MatchResult}
-use Rattle.std.specs.Result.{result_err}
+use Rattle.std.specs.Prelude.{◌≡◌, ℕ, ◌+◌, ◌<◌, ◌≤◌, min, max, true, List, length, Some, None}
 use Rattle.books.specs.declared.fault.BookFault.{BookFault}
 use Rattle.books.specs.declared.fault.BookFault.TheVariants.{TooManyPieces, TooManyLines, LineOutside, LineOrder, CostTooHigh, AmountTooHigh, TermOutside, RecordOutside, PieceOutside, EqualPieces, BarsFull, NoMemory}
 use Rattle.books.specs.Limits.{most_pieces, most_cost}
 use Rattle.books.specs.Table.{Table}
 use Rattle.list_book.specs.declared.line.Line.{Line}
-use Rattle.list_book.specs.Lines.{most_lines, line_of, line, precedes, list_table, list_fault}
+use Rattle.list_book.specs.Lines.{most_lines, line_of, line, precedes}
 
 -- one of the lines has these pieces and this cost
 abbrev pub OnLine : List Line → ℕ → ℕ → ℕ → Type 0
@@ -15,12 +14,6 @@ OnLine ls i j c = (k : ℕ) × (k < length ls) × (line ls k ≡ line_of i j c)
 -- each line stands before all that follow it
 abbrev pub Rising : List Line → Type 0
 Rising ls = (k m : ℕ) → k < m → m < length ls → precedes (line ls k) (line ls m).lower (line ls m).higher ≡ true
-
--- the lines before place r stand before a pair, and from r on none does
-pub record Parted (ls : List Line) (i j r : ℕ) : Type 0 where
-  pub within : r ≤ length ls
-  pub under : (k : ℕ) → k < r → precedes (line ls k) i j ≡ true
-  pub above : (k : ℕ) → r ≤ k → k < length ls → precedes (line ls k) i j ≡ false
 
 -- the three tests of the line at place k
 abbrev pub Within : ℕ → List Line → ℕ → Type 0
@@ -66,7 +59,3 @@ Blamed n ls (PieceOutside k) = ⊥
 Blamed n ls (EqualPieces k) = ⊥
 Blamed n ls BarsFull = ⊥
 Blamed n ls NoMemory = ⊥
-
--- a list is taken where it is lawful, and refused where its fault is to blame
-abbrev pub TakenByLaw : ℕ → List Line → Type 0
-TakenByLaw n ls = (r : Result (Unit {0}) BookFault) → result_err r ≡ list_fault n ls → MatchResult r (λ _. Lists (list_table n ls) n ls) (λ f. Blamed n ls f)

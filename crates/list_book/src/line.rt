@@ -1,7 +1,7 @@
 // One line of a list, two pieces and their cost, and the tests that a line has to pass.
 ghost use Rattle.std.specs.Prelude.{◌≡◌};
 ghost use Rattle.std.specs.Result.{result_err};
-ghost use Rattle.list_book.specs.Lines.{cost_on, line_fault};
+ghost use Rattle.list_book.specs.Lines.{line_fault};
 
 use books::fault::BookFault;
 use books::limits::MOST_COST;
@@ -17,31 +17,25 @@ pub struct Line {
     pub cost: u32,
 }
 
-// Whether a line stands before the place of a pair, its lower piece first.
-pub(crate) fn precedes(line: Line, lower: usize, higher: usize) -> bool
-    ensures { result ≡ Rattle.list_book.specs.Lines.precedes line lower higher }
-{
-    line.lower < lower || line.lower == lower && line.higher < higher
-}
+impl Line {
+    ghost use Rattle.list_book.specs.Lines.{line_of};
 
-// The cost that a line gives two pieces, the lower first.
-pub(crate) fn cost_on(line: Line, lower: usize, higher: usize) -> Option<u32>
-    ensures { result ≡ cost_on line lower higher }
-{
-    if line.lower == lower && line.higher == higher {
-        Some(line.cost)
-    } else {
-        None
+    // The line of two pieces, the lower first.
+    pub fn new(lower: usize, higher: usize, cost: u32) -> Self
+        ensures { result ≡ line_of lower higher cost }
+    {
+        Line {
+            lower,
+            higher,
+            cost,
+        }
     }
-}
 
-// Whether a line stands above the one before it, where there is one.
-fn rises(before: Option<Line>, line: Line) -> bool
-    ensures { result ≡ Rattle.list_book.specs.Lines.rises before line }
-{
-    match before {
-        None => true,
-        Some(b) => precedes(b, line.lower, line.higher),
+    // The two pieces, the lower first: by them lines rise.
+    pub(crate) fn pieces(&self) -> (usize, usize)
+        ensures { result ≡ (self.now.lower, self.now.higher) }
+    {
+        (self.lower, self.higher)
     }
 }
 
@@ -57,7 +51,7 @@ pub fn check_line(
     if line.lower >= line.higher || line.higher >= count {
         return Err(BookFault::LineOutside(number));
     }
-    if !rises(before, line) {
+    if before.is_some_and(|before| before.pieces() >= line.pieces()) {
         return Err(BookFault::LineOrder(number));
     }
     if line.cost > MOST_COST {

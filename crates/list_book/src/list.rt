@@ -1,15 +1,14 @@
 // A book that holds its pairs as lines, strictly rising by lower, then higher piece.
-ghost use Rattle.std.specs.Prelude.{◌≡◌, false, is_some};
+ghost use Rattle.std.specs.Prelude.{IsNone};
 ghost use Rattle.list_book.specs.Lines.{list_fault};
 
 use crate::line::Line;
 
 pub mod calls;
-mod find;
 
 #[derive(Drop)]
 pub struct ListBook {
     count: usize,
     lines: Vec<Line>,
-    ghost lawful: { is_some (list_fault count lines.items) ≡ false },
+    ghost lawful: { IsNone (list_fault count lines.items) },
 }

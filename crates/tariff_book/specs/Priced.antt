@@ -1,6 +1,5 @@
 -- What a loaded tariff answers and why a tariff is refused, in the words of its terms and records.
-use Rattle.std.specs.Prelude.{◌≡◌, ℕ, ◌+◌, ◌<◌, ◌≤◌, List, length, Some, None, Result, MatchResult}
-use Rattle.std.specs.Result.{result_err}
+use Rattle.std.specs.Prelude.{◌≡◌, ℕ, ◌+◌, ◌<◌, ◌≤◌, List, length, Some, None}
 use Rattle.books.specs.declared.fault.BookFault.{BookFault}
 use Rattle.books.specs.declared.fault.BookFault.TheVariants.{TooManyPieces, TooManyLines, LineOutside, LineOrder, CostTooHigh, AmountTooHigh, TermOutside, RecordOutside, PieceOutside, EqualPieces, BarsFull, NoMemory}
 use Rattle.books.specs.Limits.{most_pieces}
@@ -10,7 +9,7 @@ use Rattle.tariff_book.specs.declared.terms.Terms.{Terms}
 use Rattle.tariff_book.specs.Pieces.{GoodPiece}
 use Rattle.tariff_book.specs.Terms.{term_count, GoodTerm}
 use Rattle.tariff_book.specs.Duties.{DutyOf}
-use Rattle.tariff_book.specs.Tariff.{piece, tariff_table, tariff_fault}
+use Rattle.tariff_book.specs.Tariff.{piece}
 
 -- what a loaded tariff is: within all limits; two pieces cost c exactly when they are a duty of that cost by gap and spread, and are barred
 -- exactly when they are none
@@ -42,7 +41,3 @@ Blamed t ps (PieceOutside k) = ⊥
 Blamed t ps (EqualPieces k) = ⊥
 Blamed t ps BarsFull = ⊥
 Blamed t ps NoMemory = ⊥
-
--- a tariff is taken where it is lawful, and refused where its fault is to blame
-abbrev pub TakenByLaw : Terms → List Piece → Type 0
-TakenByLaw t ps = (r : Result (Unit {0}) BookFault) → result_err r ≡ tariff_fault t ps → MatchResult r (λ _. Prices (tariff_table t ps) t ps) (λ f. Blamed t ps f)

@@ -1,5 +1,5 @@
 -- What a tariff without a fault keeps to, and what a fault says.
-use Rattle.std.specs.Prelude.{◌≡◌, ℕ, ◌+◌, ◌<◌, ◌≤◌, Bool, true, false, cond, List, length, is_some, Some, None, Option, nat_le, slice_index_or}
+use Rattle.std.specs.Prelude.{◌≡◌, ℕ, ◌+◌, ◌<◌, ◌≤◌, Bool, true, false, cond, List, length, is_some, IsNone, Some, None, Option, nat_le, slice_index_or}
 use Rattle.std.proofs.Common.{sym, subst, arith}
 use Rattle.std.proofs.lemmas.List.{get_or_read}
 use Rattle.std.proofs.lemmas.Bool.{leb-true}
@@ -28,21 +28,21 @@ piece_good k p e = grind (arith, nat_tests)
 pub piece_bad : (k : ℕ) (p : Piece) (f : BookFault) → piece_fault k p ≡ Some f → (f ≡ RecordOutside k) × (GoodPiece p → ⊥)
 piece_bad k p f e = (grind (arith, nat_tests), λ g. grind (arith, nat_tests))
 
-pub terms_good : (t : Terms) → is_some (terms_fault t) ≡ false → (k : ℕ) → k < term_count → GoodTerm t k
+pub terms_good : (t : Terms) → IsNone (terms_fault t) → (k : ℕ) → k < term_count → GoodTerm t k
 terms_good t e k h = term_good t k (first_none (term_fault t) term_count (none_is (terms_fault t) e) k h)
 
-pub pieces_good : (ps : List Piece) → is_some (pieces_fault ps) ≡ false → (k : ℕ) → k < length ps → GoodPiece (piece ps k)
+pub pieces_good : (ps : List Piece) → IsNone (pieces_fault ps) → (k : ℕ) → k < length ps → GoodPiece (piece ps k)
 pieces_good ps e k h = piece_good k (piece ps k) (first_none (λ m. piece_fault m (piece ps m)) (length ps) (none_is (pieces_fault ps) e) k h)
-
--- the same of a record that was read from the list
-pub read_good : (ps : List Piece) (k : ℕ) (p : Piece) → is_some (pieces_fault ps) ≡ false → k < length ps → p ≡ slice_index_or ps k p → GoodPiece p
-read_good ps k p e h r = subst GoodPiece (sym (get_or_read ps k p h r _)) (pieces_good ps e k h)
 
 parts : {X : Type 0} (few : Bool) (x : X) (a b : Option X) → is_some (cond few (or_else a b) (Some x)) ≡ false → (few ≡ true) × (is_some a ≡ false) × (is_some b ≡ false)
 parts few x a b e = (grind arith, grind arith, grind arith)
 
 -- where a tariff has no fault, no part of it has one
-pub no_fault : (t : Terms) (ps : List Piece) → is_some (tariff_fault t ps) ≡ false → (length ps ≤ most_pieces) × (is_some (terms_fault t) ≡ false) × (is_some (pieces_fault ps) ≡ false)
+pub no_fault : (t : Terms) (ps : List Piece) → IsNone (tariff_fault t ps) → (length ps ≤ most_pieces) × (IsNone (terms_fault t)) × (IsNone (pieces_fault ps))
 no_fault t ps e =
     let p = parts (nat_le (length ps) most_pieces) TooManyPieces (terms_fault t) (pieces_fault ps) e in
     (leb-true (length ps) most_pieces p.0, p.1, p.2)
+
+-- a record that was read from the list is within its limits
+pub read_good : (t : Terms) (ps : List Piece) (k : ℕ) (p : Piece) → IsNone (tariff_fault t ps) → k < length ps → p ≡ slice_index_or ps k p → GoodPiece p
+read_good t ps k p e h r = subst GoodPiece (sym (get_or_read ps k p h r _)) (pieces_good ps (no_fault t ps e).2 k h)

@@ -18,6 +18,22 @@ pub struct Piece {
     pub destination: u16,
 }
 
+impl Piece {
+    ghost use Rattle.tariff_book.specs.Pieces.{piece_of};
+
+    // The record of a piece that starts and ends at these minutes and goes from one place to another.
+    pub fn new(starts: u16, ends: u16, origin: u16, destination: u16) -> Self
+        ensures { result ≡ piece_of starts ends origin destination }
+    {
+        Piece {
+            starts,
+            ends,
+            origin,
+            destination,
+        }
+    }
+}
+
 // The fault of the record of the piece with this number.
 pub fn check_piece(number: usize, piece: Piece) -> Result<(), BookFault>
     ensures { result_err result ≡ piece_fault number piece }

@@ -1,5 +1,5 @@
 // A book that holds a record for each piece, and the terms by which two pieces cost.
-ghost use Rattle.std.specs.Prelude.{◌≡◌, false, is_some};
+ghost use Rattle.std.specs.Prelude.{IsNone};
 ghost use Rattle.tariff_book.specs.Tariff.{tariff_fault};
 
 use crate::piece::Piece;
@@ -12,5 +12,5 @@ mod duty;
 pub struct TariffBook {
     terms: Terms,
     pieces: Vec<Piece>,
-    ghost lawful: { is_some (tariff_fault terms pieces.items) ≡ false },
+    ghost lawful: { IsNone (tariff_fault terms pieces.items) },
 }

@@ -25,7 +25,7 @@ pub struct Terms {
     pub move_charge: u32,
 }
 
-// The lowest term, from 1, that is outside its limits.
+// The lowest term, from 1, that is outside its limits. A refusal of the product names a term by its number, so that the numbers stay.
 pub fn check_terms(terms: Terms) -> Result<(), BookFault>
     ensures { result_err result ≡ terms_fault terms }
 {

@@ -1,7 +1,8 @@
 // The calls of a surcharge layer.
-ghost use Rattle.std.specs.Prelude.{◌≡◌, ◌+◌, ◌<◌, ◌≤◌, true, false, replicate, is_ok, if◌then◌else◌, slice_set};
+ghost use Rattle.std.specs.Prelude.{◌≡◌, false, replicate, is_ok, if◌then◌else◌, slice_set};
 ghost use Rattle.std.specs.Result.{result_err};
-ghost use Rattle.book_layers.specs.Surcharges.{surcharged, ends_marked, mark_fault, amount_fault, Surcharges, PieceOnly};
+ghost use Rattle.book_layers.specs.Surcharges.{mark_fault, amount_fault, Surcharges, PieceOnly};
+ghost use Rattle.book_layers.specs.Layers.{below_surcharge, amount_of, marks_of, surcharge_layer_means};
 ghost use Rattle.book_layers.specs.Adding.{surcharge_sound};
 
 use super::{MARKS, SurchargeLayer};
@@ -9,21 +10,12 @@ use books::book::CostBook;
 use books::fault::BookFault;
 use books::limits::MOST_COST;
 
-// How many of the two pieces are marked.
-fn ends_marked(marks: &[bool; MARKS], i: usize, j: usize) -> u32
-    requires { (i < 256) × (j < 256) }
-    ensures value { result ≡ ends_marked marks.now i j }
-    ensures bound { result ≤ 2 }
-{
-    let first = if marks[i] { 1 } else { 0 };
-    let second = if marks[j] { 1 } else { 0 };
-    first + second
-}
-
 impl<B: CostBook> SurchargeLayer<B> {
     // A layer of amount 0 that marks no piece.
     pub fn new(below: B) -> Self
-        ensures { (result.below ≡ below) × (result.amount ≡ 0) × (result.marks ≡ replicate 256 false) }
+        ensures below { below_surcharge result ≡ below }
+        ensures amount { amount_of result ≡ 0 }
+        ensures marks { marks_of result ≡ replicate 256 false }
     {
         SurchargeLayer {
             below,
@@ -35,8 +27,9 @@ impl<B: CostBook> SurchargeLayer<B> {
     // Sets the amount.
     pub fn set_amount(&mut self, amount: u32) -> Result<(), BookFault>
         ensures refuses { result_err result ≡ amount_fault amount }
-        ensures amount { self.new.amount ≡ (if is_ok result then amount else self.old.amount) }
-        ensures same { (self.new.below ≡ self.old.below) × (self.new.marks ≡ self.old.marks) }
+        ensures amount { amount_of self.new ≡ (if is_ok result then amount else amount_of self.old) }
+        ensures below { below_surcharge self.new ≡ below_surcharge self.old }
+        ensures marks { marks_of self.new ≡ marks_of self.old }
     {
         if amount > MOST_COST {
             return Err(BookFault::AmountTooHigh);
@@ -45,46 +38,26 @@ impl<B: CostBook> SurchargeLayer<B> {
         Ok(())
     }
 
-    // Writes the mark of a piece.
-    fn set_mark(&mut self, piece: usize, mark: bool) -> Result<(), BookFault>
-        ensures refuses { result_err result ≡ mark_fault (B.CostBook.means self.old.below).count piece }
-        ensures marks { self.new.marks ≡ (if is_ok result then slice_set self.old.marks piece mark else self.old.marks) }
-        ensures same { (self.new.below ≡ self.old.below) × (self.new.amount ≡ self.old.amount) }
-        ensures law { Surcharges (surcharged (B.CostBook.means self.new.below) self.new.amount self.new.marks) (B.CostBook.means self.new.below) self.new.amount self.new.marks }
-        ensures only { PieceOnly (surcharged (B.CostBook.means self.old.below) self.old.amount self.old.marks) (surcharged (B.CostBook.means self.new.below) self.new.amount self.new.marks) piece }
+    // Marks a piece, or takes its mark away.
+    pub fn set_mark(&mut self, piece: usize, marked: bool) -> Result<(), BookFault>
+        ensures refuses { result_err result ≡ mark_fault (B.CostBook.means (below_surcharge self.old)).count piece }
+        ensures marks { marks_of self.new ≡ (if is_ok result then slice_set (marks_of self.old) piece marked else marks_of self.old) }
+        ensures below { below_surcharge self.new ≡ below_surcharge self.old }
+        ensures amount { amount_of self.new ≡ amount_of self.old }
+        ensures law { Surcharges
+            (surcharge_layer_means B.CostBook.means self.new) (B.CostBook.means (below_surcharge self.new)) (amount_of self.new) (marks_of self.new) }
+        ensures only { PieceOnly (surcharge_layer_means B.CostBook.means self.old) (surcharge_layer_means B.CostBook.means self.new) piece }
     {
         if piece >= self.below.count() {
             return Err(BookFault::PieceOutside(piece));
         }
-        self.marks[piece] = mark;
+        self.marks[piece] = marked;
         Ok(())
-    }
-
-    // Marks a piece.
-    pub fn mark(&mut self, piece: usize) -> Result<(), BookFault>
-        ensures refuses { result_err result ≡ mark_fault (B.CostBook.means self.old.below).count piece }
-        ensures marks { self.new.marks ≡ (if is_ok result then slice_set self.old.marks piece true else self.old.marks) }
-        ensures same { (self.new.below ≡ self.old.below) × (self.new.amount ≡ self.old.amount) }
-        ensures law { Surcharges (surcharged (B.CostBook.means self.new.below) self.new.amount self.new.marks) (B.CostBook.means self.new.below) self.new.amount self.new.marks }
-        ensures only { PieceOnly (surcharged (B.CostBook.means self.old.below) self.old.amount self.old.marks) (surcharged (B.CostBook.means self.new.below) self.new.amount self.new.marks) piece }
-    {
-        self.set_mark(piece, true)
-    }
-
-    // Takes a piece's mark away.
-    pub fn unmark(&mut self, piece: usize) -> Result<(), BookFault>
-        ensures refuses { result_err result ≡ mark_fault (B.CostBook.means self.old.below).count piece }
-        ensures marks { self.new.marks ≡ (if is_ok result then slice_set self.old.marks piece false else self.old.marks) }
-        ensures same { (self.new.below ≡ self.old.below) × (self.new.amount ≡ self.old.amount) }
-        ensures law { Surcharges (surcharged (B.CostBook.means self.new.below) self.new.amount self.new.marks) (B.CostBook.means self.new.below) self.new.amount self.new.marks }
-        ensures only { PieceOnly (surcharged (B.CostBook.means self.old.below) self.old.amount self.old.marks) (surcharged (B.CostBook.means self.new.below) self.new.amount self.new.marks) piece }
-    {
-        self.set_mark(piece, false)
     }
 }
 
 impl<B: CostBook> CostBook for SurchargeLayer<B> {
-    ghost means = { λ s. surcharged (B.CostBook.means s.below) s.amount s.marks };
+    ghost means = { λ b. surcharge_layer_means B.CostBook.means b };
 
     ghost sound = { λ b. surcharge_sound (B.CostBook.means b.below) b.amount b.marks (B.CostBook.sound b.below) };
 
@@ -92,11 +65,9 @@ impl<B: CostBook> CostBook for SurchargeLayer<B> {
         self.below.count()
     }
 
-    fn cost(&self, i: usize, j: usize) -> Result<Option<u32>, BookFault> {
-        let Some(c) = self.below.cost(i, j)? else {
-            return Ok(None);
-        };
-        let ends = ends_marked(&self.marks, i, j);
-        Ok(Some((c + self.amount * ends).min(MOST_COST)))
+    fn pair_cost(&self, i: usize, j: usize) -> Option<u32> {
+        let cost = self.below.pair_cost(i, j)?;
+        let ends = u32::from(self.marks[i]) + u32::from(self.marks[j]);
+        Some((cost + self.amount * ends).min(MOST_COST))
     }
 }

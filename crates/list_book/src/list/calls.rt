@@ -1,14 +1,13 @@
 // The calls of a list book.
-ghost use Rattle.std.specs.Prelude.{◌≡◌, is_ok, if◌then◌else◌, MatchResult};
+ghost use Rattle.std.specs.Prelude.{◌≡◌, is_ok, if◌then◌else◌, OnOk, IfErr};
 ghost use Rattle.std.specs.Result.{result_err};
 ghost use Rattle.books.specs.Table.{no_table};
 ghost use Rattle.list_book.specs.Lines.{lines_fault, list_fault, list_table};
-ghost use Rattle.list_book.specs.Listed.{Lists, Blamed, TakenByLaw};
+ghost use Rattle.list_book.specs.Listed.{Lists, Blamed};
 ghost use Rattle.list_book.specs.Meaning.{list_means};
 ghost use Rattle.list_book.specs.Lawful.{list_sound};
 
 use super::ListBook;
-use super::find::find_cost;
 use crate::line::*;
 use books::book::CostBook;
 use books::fault::BookFault;
@@ -19,6 +18,7 @@ use std::alloc::Global;
 fn check_lines(count: usize, lines: &[Line]) -> Result<(), BookFault>
     ensures { result_err result ≡ lines_fault count lines.now }
 {
+    // A `for`: a chain over each line and the one before it would need a case of its own for the first line, and be no plainer.
     let mut before = None;
     for (k, line) in lines.iter().enumerate() {
         check_line(count, k + 1, before, *line)?;
@@ -40,11 +40,6 @@ fn check_list(count: usize, lines: &[Line]) -> Result<(), BookFault>
     check_lines(count, lines)
 }
 
-// That a list is taken or refused by the law of its lines.
-fn taken_by_law(count: usize, lines: &[Line])
-    ensures { TakenByLaw count lines.now }
-{}
-
 impl ListBook {
     // A list of no pieces.
     pub fn new(heap: Global) -> Self
@@ -60,9 +55,9 @@ impl ListBook {
     pub fn load(&mut self, count: usize, lines: Vec<Line>) -> Result<(), BookFault>
         ensures refuses { result_err result ≡ list_fault count lines.items }
         ensures means { list_means self.new ≡ (if is_ok result then list_table count lines.items else list_means self.old) }
-        ensures law { MatchResult result (λ _. Lists (list_means self.new) count lines.items) (λ f. Blamed count lines.items f) }
+        ensures law { OnOk result (Lists (list_means self.new) count lines.items) }
+        ensures blamed { IfErr result (Blamed count lines.items) }
     {
-        taken_by_law(count, &lines);
         check_list(count, &lines)?;
         self.count = count;
         self.lines = lines;
@@ -79,13 +74,12 @@ impl CostBook for ListBook {
         self.count
     }
 
-    fn cost(&self, i: usize, j: usize) -> Result<Option<u32>, BookFault> {
-        if i >= self.count {
-            return Err(BookFault::PieceOutside(i));
-        }
-        if j >= self.count {
-            return Err(BookFault::PieceOutside(j));
-        }
-        Ok(find_cost(&self.lines, i.min(j), i.max(j)))
+    fn pair_cost(&self, i: usize, j: usize) -> Option<u32> {
+        let pieces = (i.min(j), i.max(j));
+        let at = self
+            .lines
+            .binary_search_by_key(&pieces, |line| line.pieces())
+            .ok()?;
+        Some(self.lines[at].cost)
     }
 }

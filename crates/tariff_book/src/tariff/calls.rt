@@ -1,9 +1,9 @@
 // The calls of a tariff book.
-ghost use Rattle.std.specs.Prelude.{◌≡◌, is_ok, if◌then◌else◌, MatchResult};
+ghost use Rattle.std.specs.Prelude.{◌≡◌, is_ok, if◌then◌else◌, OnOk, IfErr};
 ghost use Rattle.std.specs.Result.{result_err};
 ghost use Rattle.books.specs.Table.{no_table};
 ghost use Rattle.tariff_book.specs.Tariff.{pieces_fault, tariff_fault, tariff_table};
-ghost use Rattle.tariff_book.specs.Priced.{Prices, Blamed, TakenByLaw};
+ghost use Rattle.tariff_book.specs.Priced.{Prices, Blamed};
 ghost use Rattle.tariff_book.specs.Meaning.{tariff_means};
 ghost use Rattle.tariff_book.specs.Pricing.{tariff_sound};
 
@@ -37,11 +37,6 @@ fn check_tariff(terms: Terms, pieces: &[Piece]) -> Result<(), BookFault>
     check_pieces(pieces)
 }
 
-// That a tariff is taken or refused by the law of its terms and records.
-fn taken_by_law(terms: Terms, pieces: &[Piece])
-    ensures { TakenByLaw terms pieces.now }
-{}
-
 impl TariffBook {
     // A tariff of no pieces.
     pub fn new(heap: Global) -> Self
@@ -58,13 +53,14 @@ impl TariffBook {
         }
     }
 
-    // Takes these terms and records in place of those held; where they are refused the book stays as it was.
+    // Takes these terms and records in place of those held; where they are refused the book stays as it was. The list book loads in the same steps: one
+    // generic book would need a trait for the fault, the table and both laws, to save three lines.
     pub fn load(&mut self, terms: Terms, pieces: Vec<Piece>) -> Result<(), BookFault>
         ensures refuses { result_err result ≡ tariff_fault terms pieces.items }
         ensures means { tariff_means self.new ≡ (if is_ok result then tariff_table terms pieces.items else tariff_means self.old) }
-        ensures law { MatchResult result (λ _. Prices (tariff_means self.new) terms pieces.items) (λ f. Blamed terms pieces.items f) }
+        ensures law { OnOk result (Prices (tariff_means self.new) terms pieces.items) }
+        ensures blamed { IfErr result (Blamed terms pieces.items) }
     {
-        taken_by_law(terms, &pieces);
         check_tariff(terms, &pieces)?;
         self.terms = terms;
         self.pieces = pieces;
@@ -81,14 +77,7 @@ impl CostBook for TariffBook {
         self.pieces.len()
     }
 
-    fn cost(&self, i: usize, j: usize) -> Result<Option<u32>, BookFault> {
-        let count = self.count();
-        if i >= count {
-            return Err(BookFault::PieceOutside(i));
-        }
-        if j >= count {
-            return Err(BookFault::PieceOutside(j));
-        }
-        Ok(pieces_cost(self.terms, self.pieces[i], self.pieces[j]))
+    fn pair_cost(&self, i: usize, j: usize) -> Option<u32> {
+        pieces_cost(self.terms, *self.pieces.get(i)?, *self.pieces.get(j)?)
     }
 }

@@ -1,15 +1,18 @@
 // What two pieces cost as one duty.
-ghost use Rattle.std.specs.Prelude.{◌≡◌, false, is_some};
+ghost use Rattle.std.specs.Prelude.{◌≡◌, IsNone};
 ghost use Rattle.tariff_book.specs.Terms.{terms_fault};
 ghost use Rattle.tariff_book.specs.Pieces.{GoodPiece};
 ghost use Rattle.tariff_book.specs.Duties.{duty_cost, pieces_cost};
 
 use crate::piece::Piece;
 use crate::terms::Terms;
+use std::cmp::Ordering;
 
 // What an early and a late piece cost; `None` where the break is too short or the spread too great.
 fn duty_cost(terms: Terms, early: Piece, late: Piece) -> Option<u32>
-    requires { (is_some (terms_fault terms) ≡ false) × ((GoodPiece early) × (GoodPiece late)) }
+    requires good_terms { IsNone (terms_fault terms) }
+    requires good_early { GoodPiece early }
+    requires good_late { GoodPiece late }
     ensures { result ≡ duty_cost terms early late }
 {
     if late.starts < early.ends + terms.least_break {
@@ -29,14 +32,14 @@ fn duty_cost(terms: Terms, early: Piece, late: Piece) -> Option<u32>
 
 // What two pieces cost, the one that starts first as the early one; equal starts are barred.
 pub(super) fn pieces_cost(terms: Terms, one: Piece, other: Piece) -> Option<u32>
-    requires { (is_some (terms_fault terms) ≡ false) × ((GoodPiece one) × (GoodPiece other)) }
+    requires good_terms { IsNone (terms_fault terms) }
+    requires good_one { GoodPiece one }
+    requires good_other { GoodPiece other }
     ensures { result ≡ pieces_cost terms one other }
 {
-    if one.starts < other.starts {
-        duty_cost(terms, one, other)
-    } else if other.starts < one.starts {
-        duty_cost(terms, other, one)
-    } else {
-        None
+    match one.starts.cmp(&other.starts) {
+        Ordering::Less => duty_cost(terms, one, other),
+        Ordering::Greater => duty_cost(terms, other, one),
+        Ordering::Equal => None,
     }
 }

@@ -1,6 +1,5 @@
-use Rattle.std.proofs.Common.{◌≡◌, ◌+◌, length, sym, ap, ◌∙◌, add-one, arith}
+use Rattle.std.proofs.Common.{◌+◌, length, sym, ap, ◌∙◌, add-one}
 use Rattle.std.proofs.lemmas.Result.{err_from_is_err_and}
-use Rattle.ranges.specs.First.{first_below}
 use Rattle.ranges.proofs.First.{first_found, first_more}
 use Rattle.list_book.specs.Lines.{line, before, line_fault, fault_at}
 use Rattle.list_book.proofs.list.calls.check_lines.Goals as goal
@@ -19,8 +18,3 @@ loop-k-preserved c =
     let k = c.loop-k.k in
     let here = c.in_ok-check_line.ensures ∙ ap (λ b. line_fault c.args.count (k + 1) b (line ls k)) c.loop-k.invariant.0 in
     (sym (ap (before ls) (add-one k)), first_more (fault_at c.args.count ls) k c.loop-k.invariant.1 (sym here))
-
-pub returns : goal.returns
-returns c =
-    let n : length c.args.lines.now ≡ c.loop-k.k = omega arith in
-    sym (ap (first_below (fault_at c.args.count c.args.lines.now)) n ∙ c.loop-k.invariant.1)

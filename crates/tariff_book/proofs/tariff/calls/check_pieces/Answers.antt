@@ -1,6 +1,6 @@
 use Rattle.std.proofs.Common.{length, sym, rules}
 use Rattle.std.proofs.lemmas.Result.{err_from_is_err_and}
-use Rattle.ranges.proofs.First.{first_more, first_found}
+use Rattle.ranges.proofs.First.{first_found}
 use Rattle.tariff_book.specs.Pieces.{piece_fault}
 use Rattle.tariff_book.specs.Tariff.{piece}
 use Rattle.tariff_book.proofs.tariff.calls.check_pieces.Goals as goal
@@ -10,6 +10,3 @@ returns-in_err-check_piece c =
     let ps = c.args.pieces.now in
     let p = err_from_is_err_and c.from_residual.result c.from_residual.ensures.1 in
     rw (p.1, p.2) (sym (first_found (λ k. piece_fault k (piece ps k)) c.loop-k.k (length ps) _ c.loop-k-test.true c.loop-k.invariant (search rules)))
-
-pub loop-k-preserved : goal.loop-k-preserved
-loop-k-preserved c = first_more _ c.loop-k.k c.loop-k.invariant (sym c.in_ok-check_piece.ensures)
