@@ -6,7 +6,7 @@ use Rattle.ranges.specs.Sums.{sum_below}
 use Rattle.ranges.proofs.Sums.{sum_cong}
 use Rattle.slips.specs.Groups.{up_to}
 use Rattle.slip_check.specs.Tables.{first_up}
-use Rattle.slip_check.proofs.WaysUp.{Rises, up_none, up_step, up_low, up_self}
+use Rattle.slip_check.proofs.WaysUp.{Rises, above_few, up_none, up_step, up_low, up_self}
 
 -- a sum of which one term falls away
 one_less : (n : ℕ) (f g : ℕ → ℕ) (x w : ℕ) → x < n → f x ≡ w → g x ≡ 0 → ((k : ℕ) → (k ≡ x → ⊥) → f k ≡ g k) → sum_below n f ≡ sum_below n g + w
@@ -24,13 +24,12 @@ one_less (suc n) f g x w l a b same =
     omega arith)
     (cases_eq x n)
 
+neither : (b : Bool) (w : ℕ) → cond (cond b (not b) b) w 0 ≡ 0
+neither b w = grind arith
+
 pub none_between : (n : ℕ) (x : ℕ → Bool) (w : ℕ → ℕ) → sum_below n (λ k. cond (cond (x k) (not (x k)) (x k)) (w k) 0) ≡ 0
 none_between zero x w = refl
-none_between (suc n) x w = let e = none_between n x w in let t = same (x n) (w n) in omega arith
-  where
-    same : (b : Bool) (w : ℕ) → cond (cond b (not b) b) w 0 ≡ 0
-    same true w = refl
-    same false w = refl
+none_between (suc n) x w = let e = none_between n x w in let t = neither (x n) (w n) in omega arith
 
 -- a group that is not up from either
 apart_cond : (x y : Bool) (w : ℕ) → x ≡ false → y ≡ false → cond (cond x (not y) y) w 0 ≡ 0
@@ -60,10 +59,7 @@ step_between above worth count r (suc x) b l m o =
     other k ne = let e = up_step above count r (suc x) (suc k) l m in let n : eqb (suc x) (suc k) ≡ false = ne_eqb (suc x) (suc k) (λ q. ne (omega arith)) in grind (arith, nat_tests)
 
 turn_cond : (x y : Bool) (w : ℕ) → cond (cond x (not y) y) w 0 ≡ cond (cond y (not x) x) w 0
-turn_cond true true w = refl
-turn_cond true false w = refl
-turn_cond false true w = refl
-turn_cond false false w = refl
+turn_cond x y w = grind arith
 
 -- the two ways up may change places
 pub turn_between : (n : ℕ) (x y : ℕ → Bool) (w : ℕ → ℕ) → sum_below n (λ k. cond (cond (x k) (not (y k)) (y k)) (w k) 0) ≡ sum_below n (λ k. cond (cond (y k) (not (x k)) (x k)) (w k) 0)
@@ -74,15 +70,8 @@ turn_between (suc n) x y w = let e = turn_between n x y w in let t = turn_cond (
 abbrev pub rank : ℕ → ℕ → ℕ
 rank count g = cond (eqb g 0) 0 (count + 1 - g)
 
-pub rank_few : (count g : ℕ) → count ≤ 127 → rank count g ≤ 127
-rank_few count g h = grind (arith, nat_tests)
-
 rank_falls : (count g p : ℕ) → 0 < g → g ≤ count → (p ≡ 0) ⊎ ((g < p) × (p ≤ count)) → rank count p < rank count g
 rank_falls count g p l k o = grind (arith, nat_tests)
-
-up_few : (count g p : ℕ) → (p ≡ 0) ⊎ ((g < p) × (p ≤ count)) → p ≤ count
-up_few count g p (inl z) = omega arith
-up_few count g p (inr u) = u.1
 
 -- which of two ways up is to be followed next
 lower_yes : (count a b : ℕ) → (a ≡ b → ⊥) → b ≤ count → first_up a b ≡ true → (0 < a) × ((b ≡ 0) ⊎ ((a < b) × (b ≤ count)))
@@ -109,7 +98,7 @@ steps_from above worth count r a b k o =
     let after = turn_between count (λ j. up_to above count (above a) (suc j)) (λ j. up_to above count b (suc j)) (λ j. worth (suc j)) in
     record {
       positive = o.0;
-      few = up_few count a (above a) (r a o.0 k);
+      few = above_few (above a) count a (r a o.0 k);
       falls = rank_falls count a (above a) o.0 k (r a o.0 k);
       left = one;
       right = before ∙ (one ∙ ap (λ x. x + worth a) after);

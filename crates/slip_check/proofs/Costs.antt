@@ -1,13 +1,17 @@
--- What a book's answer says of its table.
-use Rattle.std.proofs.Common.{◌≡◌, ℕ, ◌≤◌, IfSome, Some, None, Ok, Option, sym, arith}
+-- What the law of a book says of its costs.
+use Rattle.std.proofs.Common.{◌≡◌, ℕ, ◌≤◌, List, Some, None, Option, refl, arith}
 use Rattle.std.proofs.lemmas.Bool.Decides.{nat_tests}
+use Rattle.std.specs.Option.{unwrap_or}
 use Rattle.books.specs.Limits.{most_cost}
 use Rattle.books.specs.Table.{Table, Sound}
-use Rattle.books.specs.Asked.{asked}
+use Rattle.slips.specs.Problem.{problem}
+use Rattle.slips.specs.View.{View, mate}
+use Rattle.slip_check.specs.Tables.{lead_cost}
 
-pub answer_is : (t : Table) (u v : ℕ) (c : Option ℕ) → Ok c ≡ asked t u v → c ≡ t.cost u v
-answer_is t u v c e = grind (arith, nat_tests)
+low_or_none : (o : Option ℕ) → ((c : ℕ) → o ≡ Some c → c ≤ most_cost) → unwrap_or o 0 ≤ most_cost
+low_or_none None h = omega arith
+low_or_none (Some c) h = h c refl
 
-pub answer_low : (t : Table) (u v : ℕ) (c : Option ℕ) → Sound t → c ≡ t.cost u v → IfSome c (λ x. x ≤ most_cost)
-answer_low t u v None s e = tt
-answer_low t u v (Some x) s e = s.low u v x (sym e)
+-- no piece adds more than the greatest cost to that of the mates
+pub lead_low : (t : Table) (marks : List ℕ) (s : View) (u : ℕ) → Sound t → lead_cost (problem t marks) s u ≤ most_cost
+lead_low t marks s u sound = let low = low_or_none (t.cost u (mate s u)) (sound.low u (mate s u)) in grind (arith, nat_tests)

@@ -1,13 +1,13 @@
--- The groups of a nested table rise.
-use Rattle.std.proofs.Common.{◌≡◌, ℕ, zero, suc, ◌<◌, ◌≤◌, true, ◌⊎◌, List, arith}
+-- The groups of a slip rise where their records are good.
+use Rattle.std.proofs.Common.{◌≡◌, ℕ, zero, suc, ◌<◌, ◌≤◌, true, ◌⊎◌, arith}
 use Rattle.std.proofs.lemmas.Bool.Decides.{nat_tests}
-use Rattle.slips.specs.declared.slip.GroupRecord.{GroupRecord}
-use Rattle.slip_check.specs.Tables.{good_record, record_at, parent_in, Nested}
+use Rattle.slips.specs.View.{View, parent, group_at}
+use Rattle.slips.specs.Verdict.{group_good}
 use Rattle.slip_check.proofs.WaysUp.{Rises}
 
-good_parent : (r : GroupRecord) (k count : ℕ) → good_record r k count ≡ true → (r.parent ≡ 0) ⊎ ((suc k < r.parent) × (r.parent ≤ count))
-good_parent r k count e = grind (arith, nat_tests)
+good_parent : (s : View) (k : ℕ) → group_good s k ≡ true → ((group_at s k).parent ≡ 0) ⊎ ((suc k < (group_at s k).parent) × ((group_at s k).parent ≤ s.count))
+good_parent s k e = grind (arith, nat_tests)
 
-pub nested_rises : (count : ℕ) (groups : List GroupRecord) → Nested count groups → Rises (parent_in groups) count
-nested_rises count groups n zero l k = absurd (omega arith)
-nested_rises count groups n (suc g) l k = good_parent (record_at groups g) g count (n.good g k)
+pub nested_rises : (s : View) → ((k : ℕ) → k < s.count → group_good s k ≡ true) → Rises (parent s) s.count
+nested_rises s good zero l k = absurd (omega arith)
+nested_rises s good (suc g) l k = good_parent s g (good g k)

@@ -1,5 +1,5 @@
 -- The way up through groups whose parents have higher numbers.
-use Rattle.std.proofs.Common.{◌≡◌, ℕ, zero, suc, ◌+◌, ◌-◌, ◌<◌, ◌≤◌, true, false, cond, ◌||◌, eqb, ◌⊎◌, sym, refl, ap, ◌∙◌, inl, inr, ⊎_elim, arith}
+use Rattle.std.proofs.Common.{◌≡◌, ℕ, zero, suc, ◌+◌, ◌<◌, ◌≤◌, true, false, ◌||◌, eqb, ◌⊎◌, sym, refl, ap, ◌∙◌, inl, inr, ⊎_elim, arith}
 use Rattle.std.proofs.lemmas.Bool.Decides.{nat_tests}
 use Rattle.std.proofs.lemmas.Bool.{eq-eqb, ne_eqb, cases_eq}
 use Rattle.slips.specs.Groups.{up_to}
@@ -58,31 +58,18 @@ up_low above count r (suc steps) g h l k =
 pub up_self : (above : ℕ → ℕ) (count : ℕ) → Rises above count → (g : ℕ) → 0 < g → g ≤ count → up_to above count g g ≡ true
 up_self above count r g l k = let e = up_step above count r g g l k in let s = eq-eqb g g refl in grind (arith, nat_tests)
 
-above_few : (p count : ℕ) (g : ℕ) → (p ≡ 0) ⊎ ((g < p) × (p ≤ count)) → p ≤ count
+pub above_few : (p count g : ℕ) → (p ≡ 0) ⊎ ((g < p) × (p ≤ count)) → p ≤ count
 above_few p count g (inl z) = omega arith
 above_few p count g (inr u) = u.1
 
-nearer : (p count g h : ℕ) → 0 < g → g < h → (p ≡ 0) ⊎ ((g < p) × (p ≤ count)) → cond (eqb p 0) 0 (h + 1 - p) < cond (eqb g 0) 0 (h + 1 - g)
-nearer p count g h l k o = grind (arith, nat_tests)
-
 -- a step up from a group below the one that is sought
-pub record Climbs (above : ℕ → ℕ) (count g h : ℕ) : Type 0 where
-  pub few : above g ≤ count
-  pub same : up_to above count (above g) h ≡ up_to above count g h
-  pub nearer : cond (eqb (above g) 0) 0 (h + 1 - above g) < cond (eqb g 0) 0 (h + 1 - g)
+pub climb_same : (above : ℕ → ℕ) (count : ℕ) → Rises above count → (g h : ℕ) → 0 < g → g ≤ count → g < h → up_to above count (above g) h ≡ up_to above count g h
+climb_same above count r g h l k m = let e = up_step above count r g h l k in let n = ne_eqb g h (λ q. omega arith) in grind (arith, nat_tests)
 
-pub climbs : (above : ℕ → ℕ) (count : ℕ) → Rises above count → (g h : ℕ) → 0 < g → g ≤ count → g < h → Climbs above count g h
-climbs above count r g h l k m = record {
-  few = above_few (above g) count g (r g l k);
-  same = let e = up_step above count r g h l k in let n = ne_eqb g h (λ q. omega arith) in grind (arith, nat_tests);
-  nearer = nearer (above g) count g h l m (r g l k);
-}
-
--- where the way up ends: at no group, or at the one that is sought or a higher one
-pub ends_at : (above : ℕ → ℕ) (count : ℕ) → Rises above count → (g h : ℕ) → 0 < h → g ≤ count → (g ≡ 0) ⊎ (h ≤ g) → eqb g h ≡ up_to above count g h
-ends_at above count r g h l k (inl z) = ap (λ x. eqb x h) z ∙ (ne_eqb 0 h (λ q. omega arith) ∙ sym (ap (λ x. up_to above count x h) z ∙ up_none above count h))
-ends_at above count r g h l k (inr m) =
+-- at a group that is not lower than the one that is sought, the way up has come to it or past it
+pub ends_at : (above : ℕ → ℕ) (count : ℕ) → Rises above count → (g h : ℕ) → 0 < g → g ≤ count → h ≤ g → eqb g h ≡ up_to above count g h
+ends_at above count r g h l k m =
     ⊎_elim
-    (λ (e : g ≡ h). eq-eqb g h e ∙ sym (ap (λ x. up_to above count g x) (sym e) ∙ up_self above count r g (omega arith) k))
+    (λ (e : g ≡ h). eq-eqb g h e ∙ sym (ap (λ x. up_to above count g x) (sym e) ∙ up_self above count r g l k))
     (λ (n : g ≡ h → ⊥). ne_eqb g h n ∙ sym (up_low above count r count g h k (omega arith)))
     (cases_eq g h)

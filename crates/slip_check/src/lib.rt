@@ -7,4 +7,5 @@ mod groups;
 mod nests;
 mod pairs;
 mod pieces;
-mod records;
+mod priced;
+mod shaped;

@@ -25,20 +25,20 @@ shape_whole a b n k p q r = grind (arith, nat_tests)
 shaped_is : (n : ℕ) (s : View) → shaped n s ≡ true → Formed n s
 shaped_is n s e = let h = shape_parts (length s.pieces) (length s.groups) n s.kind e in record { pieces = h.0; groups = h.1; kinds = h.2 }
 
-shaped_from : (n : ℕ) (s : View) → Formed n s → shaped n s ≡ true
+pub shaped_from : (n : ℕ) (s : View) → Formed n s → shaped n s ≡ true
 shaped_from n s f = shape_whole (length s.pieces) (length s.groups) n s.kind f.pieces f.groups f.kinds
 
 -- the tests of a slip's kind
-abbrev kind_fault : Problem → View → Option SlipFault
+abbrev pub kind_fault : Problem → View → Option SlipFault
 kind_fault p s = cond (eqb s.kind 1) (priced_fault p s) (gap_fault p s)
 
 two_not_one : (k : ℕ) → k ≡ 2 → k ≡ 1 → ⊥
 two_not_one k p q = omega arith
 
-priced_tests : (p : Problem) (s : View) → s.kind ≡ 1 → kind_fault p s ≡ priced_fault p s
+pub priced_tests : (p : Problem) (s : View) → s.kind ≡ 1 → kind_fault p s ≡ priced_fault p s
 priced_tests p s k = cond-true (eqb s.kind 1) (priced_fault p s) (gap_fault p s) (eq-eqb s.kind 1 k)
 
-gap_tests : (p : Problem) (s : View) → s.kind ≡ 2 → kind_fault p s ≡ gap_fault p s
+pub gap_tests : (p : Problem) (s : View) → s.kind ≡ 2 → kind_fault p s ≡ gap_fault p s
 gap_tests p s k = cond-false (eqb s.kind 1) (priced_fault p s) (gap_fault p s) (ne_eqb s.kind 1 (two_not_one s.kind k))
 
 module _ (t : Table) (marks : List ℕ) (s : View) where

@@ -37,10 +37,7 @@ module _ (p : Problem) (m : ℕ → ℕ) (q : Pairing p m) where
     stays_mate j u l = rw (q.back u l) (swapped (eqb (part (m u)) j) (eqb (part u) j))
       where
         swapped : (x y : Bool) → ◌≡◌ {A = ℕ} (cond (x && y) 1 0) (cond (y && x) 1 0)
-        swapped true true = refl
-        swapped true false = refl
-        swapped false true = refl
-        swapped false false = refl
+        swapped x y = grind arith
 
     stays_or_leaves : (i u : ℕ) → u < p.size → (b : Bool) → p.live u ≡ b
         → cond (b && eqb (part u) (suc i)) 1 0 ≡ cond b (stays (suc i) u) 0 + cond b (leaves (suc i) u) 0

@@ -1,5 +1,5 @@
 -- The shares that leave a set are as many as the pairs of mates that leave it.
-use Rattle.std.proofs.Common.{◌≡◌, ℕ, ◌<◌, Bool, true, false, cond, ◌&&◌, ltb, pos, refl, ap, ◌∙◌, ⊎_elim, arith}
+use Rattle.std.proofs.Common.{◌≡◌, ℕ, ◌<◌, Bool, true, false, cond, ◌&&◌, ltb, pos, ap, ◌∙◌, ⊎_elim, arith}
 use Rattle.std.proofs.lemmas.Bool.{cases_Bool}
 use Rattle.ranges.specs.Sums.{sum_below}
 use Rattle.ranges.proofs.Sums.{sum_zero}
@@ -13,10 +13,7 @@ use Rattle.slip_laws.proofs.Shares.{sum_int_natural, mates_at, mates_off, mates_
 
 -- the tests, over plain truth values
 as_natural : (leaves is : Bool) → cond leaves (cond is (pos 1) (pos 0)) (pos 0) ≡ pos (cond leaves (cond is 1 0) 0)
-as_natural true true = refl
-as_natural true false = refl
-as_natural false true = refl
-as_natural false false = refl
+as_natural leaves is = grind arith
 
 none_off : (leaves is : Bool) → is ≡ false → ◌≡◌ {A = ℕ} (cond leaves (cond is 1 0) 0) 0
 none_off leaves is e = grind arith

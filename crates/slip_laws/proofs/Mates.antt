@@ -132,8 +132,4 @@ module _ (p : Problem) (m : ℕ → ℕ) (q : Pairing p m) where
     where
       -- of a pair, one piece is in the set, or both, or none
       split : (x y z : Bool) → cond x (cond y 1 0 + cond z 1 0) 0 ≡ cond (x && cond y (not z) z) 1 0 + 2 * cond (x && (y && z)) 1 0
-      split false y z = refl
-      split true true true = refl
-      split true true false = refl
-      split true false true = refl
-      split true false false = refl
+      split x y z = grind (arith, nat_tests)

@@ -1,15 +1,15 @@
 -- What the tests of a piece's record and of a group's record say.
-use Rattle.std.proofs.Common.{◌≡◌, ℕ, ◌+◌, ◌%◌, ◌<◌, ◌≤◌, Bool, true, false, cond, not, ◌&&◌, ◌||◌, eqb, ltb, leb, ◌≢◌, ◌⊎◌, ℤ, pos, ◌≤ℤ◌, is_some, arith}
+use Rattle.std.proofs.Common.{◌≡◌, ℕ, ◌+◌, ◌%◌, ◌<◌, ◌≤◌, Bool, true, false, cond, not, ◌&&◌, ◌||◌, eqb, ltb, leb, ◌≢◌, ◌⊎◌, ℤ, pos, ◌≤ℤ◌, is_some, sym, ◌∙◌, arith}
 use lib.Signed.{le_z}
 use Rattle.std.proofs.lemmas.Bool.Decides.{nat_tests}
 use Rattle.std.proofs.lemmas.Int.{ints}
-use Rattle.std.proofs.lemmas.Bool.{and_parts, and_from, eqb-true, eq-eqb}
+use Rattle.std.proofs.lemmas.Bool.{and_parts, and_from, eqb-true, eq-eqb, cond-false}
 use Rattle.slips.specs.declared.slip.PieceRecord.{PieceRecord}
 use Rattle.slips.specs.declared.slip.GroupRecord.{GroupRecord}
 use Rattle.slips.specs.Problem.{Problem, Allowed}
 use Rattle.slips.specs.View.{View, piece_at, mate, price, group, group_at}
 use Rattle.slips.specs.System.{BlankPiece, BlankGroup, WithinLimits, most_price, LawfulParent, live_in, OddSet}
-use Rattle.slips.specs.Verdict.{eq_int, blank_piece, blank_group, within_limits, mated, piece_good, lawful_parent, group_good, odd_three}
+use Rattle.slips.specs.Verdict.{eq_int, blank_piece, blank_group, within_limits, piece_good, lawful_parent, group_good, odd_three}
 
 pub le_is : (a b : ℤ) → le_z a b ≡ true → a ≤ℤ b
 le_is a b e = omega (arith, ints)
@@ -89,20 +89,10 @@ piece_from p s u l g =
 
 -- the record of a struck piece
 pub struck_is : (p : Problem) (s : View) (u : ℕ) → p.live u ≡ false → piece_good p s u ≡ true → BlankPiece (piece_at s u)
-struck_is p s u l e =
-    blank_piece_is (piece_at s u)
-    (struck (p.live u) (mated p s u && (is_some (p.cost u (mate s u)) && (within_limits (price s u) && leb (group s u) s.count))) (blank_piece (piece_at s u)) l e)
-  where
-    struck : (live x y : Bool) → live ≡ false → cond live x y ≡ true → y ≡ true
-    struck live x y l e = grind arith
+struck_is p s u l e = blank_piece_is (piece_at s u) (sym (cond-false (p.live u) _ (blank_piece (piece_at s u)) l) ∙ e)
 
 pub struck_from : (p : Problem) (s : View) (u : ℕ) → p.live u ≡ false → BlankPiece (piece_at s u) → piece_good p s u ≡ true
-struck_from p s u l b =
-    struck (p.live u) (mated p s u && (is_some (p.cost u (mate s u)) && (within_limits (price s u) && leb (group s u) s.count))) (blank_piece (piece_at s u)) l
-    (blank_piece_from (piece_at s u) b)
-  where
-    struck : (live x y : Bool) → live ≡ false → y ≡ true → cond live x y ≡ true
-    struck live x y l e = grind arith
+struck_from p s u l b = cond-false (p.live u) _ (blank_piece (piece_at s u)) l ∙ blank_piece_from (piece_at s u) b
 
 -- parents, over plain numbers
 parent_parts : (h k c : ℕ) → (eqb h 0 || (ltb (k + 1) h && leb h c)) ≡ true → (h ≡ 0) ⊎ ((k + 1 < h) × (h ≤ c))

@@ -2,7 +2,7 @@
 use Rattle.std.proofs.Common.{◌≡◌, ℕ, zero, suc, ◌<◌, Bool, true, false, cond, not, ◌&&◌, eqb, ◌≢◌, ℤ, pos, ◌+ℤ◌, ◌≤ℤ◌, is_some, sym, refl, ap, ◌∙◌, arith}
 use Rattle.std.proofs.lemmas.Bool.Decides.{nat_tests, same_from_decides}
 use Rattle.std.proofs.lemmas.Int.{ints}
-use Rattle.std.proofs.lemmas.Bool.{both_ways}
+use Rattle.std.proofs.lemmas.Bool.{both_ways, false_from_ne_true}
 use Rattle.ranges.specs.Sums.{sum_below, count_below}
 use Rattle.ranges.proofs.Single.{sum_single}
 use Rattle.slips.specs.Problem.{Problem, Live, Allowed, Pairing}
@@ -81,10 +81,6 @@ either_order p s fair u v =
 pub row_is : (p : Problem) (s : View) (u : ℕ) → sum_int_below p.size (share p s u) ≡ pos (count_below p.size (mates p s u))
 row_is p s u = sum_int_natural p.size (share p s u) (λ v. cond (mates p s u v) 1 0) (λ v h. one_or_none (mates p s u v))
 
-not_so : (b : Bool) → (b ≡ true → ⊥) → b ≡ false
-not_so true h = absurd (h refl)
-not_so false h = refl
-
 -- where the mates are a pairing
 module _ (p : Problem) (s : View) (pairing : Pairing p (mate s)) where
   pub mates_at : (u : ℕ) → Live p u → mates p s u (mate s u) ≡ true
@@ -93,10 +89,10 @@ module _ (p : Problem) (s : View) (pairing : Pairing p (mate s)) where
       (record { first = l.marked; second = (pairing.lives u l).marked; other = λ e. pairing.other u l (sym e); there = refl; back = pairing.back u l; allowed = pairing.allowed u l })
 
   pub mates_off : (u v : ℕ) → v ≢ mate s u → mates p s u v ≡ false
-  mates_off u v n = not_so (mates p s u v) (λ e. n (sym (mates_is p s u v e).there))
+  mates_off u v n = false_from_ne_true (mates p s u v) (λ e. n (sym (mates_is p s u v e).there))
 
   pub mates_struck : (u v : ℕ) → p.live u ≡ false → mates p s u v ≡ false
-  mates_struck u v l = not_so (mates p s u v) (λ e. both_ways (p.live u) l (mates_is p s u v e).first)
+  mates_struck u v l = false_from_ne_true (mates p s u v) (λ e. both_ways (p.live u) l (mates_is p s u v e).first)
 
   -- each live piece has one mate
   one_mate : (u : ℕ) → Live p u → count_below p.size (mates p s u) ≡ 1

@@ -1,3 +1,4 @@
+pub mod Kind
 pub mod Fault
 pub mod Problem
 pub mod View

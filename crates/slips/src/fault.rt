@@ -22,17 +22,16 @@ pub enum SlipFault {
     Gap,
 }
 
-impl SlipFault {
-    // The fault's number and what it names.
-    pub fn refusal(&self) -> Refusal
-        ensures { result ≡ slip_refusal self.now }
-    {
-        match self {
+impl Refuses for SlipFault {
+    ghost told = { slip_refusal };
+
+    fn refusal(&self) -> Refusal {
+        match *self {
             SlipFault::Shape => plain(17),
-            SlipFault::Piece(piece) => naming(18, *piece),
-            SlipFault::Group(group) => naming(19, *group),
-            SlipFault::Prices(lower, higher) => naming_two(20, *lower, *higher),
-            SlipFault::Crossing(group) => naming(21, *group),
+            SlipFault::Piece(piece) => naming(18, piece),
+            SlipFault::Group(group) => naming(19, group),
+            SlipFault::Prices(lower, higher) => naming_two(20, lower, higher),
+            SlipFault::Crossing(group) => naming(21, group),
             SlipFault::Total => plain(22),
             SlipFault::Gap => plain(23),
         }

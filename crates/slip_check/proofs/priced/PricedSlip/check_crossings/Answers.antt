@@ -1,0 +1,13 @@
+use Rattle.std.proofs.Common.{suc, ◌+◌, eqb, add-one, refl, rules}
+use Rattle.slips.specs.declared.fault.SlipFault.TheVariants.{Crossing}
+use Rattle.slips.specs.Groups.{inside}
+use Rattle.slips.specs.Verdict.{unless, left_by}
+use Rattle.slip_check.specs.Shaped.{problem_of, view_of}
+use Rattle.ranges.proofs.Chains.{tried}
+use Rattle.slip_check.proofs.priced.PricedSlip.check_crossings.Goals as goal
+
+pub returns : goal.returns
+returns g c =
+    let p = problem_of c.args.self.now.shaped in
+    let s = view_of c.args.self.now.shaped in
+    tried _ _ (λ k. unless (eqb (left_by p s (inside s (suc k))) 1) (Crossing (k + 1))) s.count c.try_for_each.result _ c.try_for_each.ensures.runs refl c.count.ensures (λ x v f called. search (rules, add-one))

@@ -1,0 +1,10 @@
+use Rattle.std.proofs.Common.{◌&&◌, refl, rules}
+use Rattle.slips.specs.Groups.{inside}
+use Rattle.ranges.proofs.Chains.{counted}
+use Rattle.slip_check.specs.Shaped.{problem_of, view_of}
+use Rattle.slip_check.proofs.priced.PricedSlip.count_inside.Goals as goal
+
+pub returns : goal.returns
+returns g c =
+    let p = problem_of c.args.self.now.shaped in
+    counted _ _ (λ u. p.live u && inside (view_of c.args.self.now.shaped) c.args.h u) p.size c.count.result _ _ c.count.ensures.runs c.filter.ensures.runs refl c.size.ensures (λ x b f called. search rules)
