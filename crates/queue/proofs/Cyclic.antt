@@ -1,6 +1,7 @@
 -- What a write and a step of the head do to what waits.
-use Rattle.std.proofs.Common.{◌≡◌, ℕ, suc, ◌+◌, ◌-◌, ◌<◌, ◌≤◌, List, [], ◌∷◌, ◌++◌, length, get_or, take, drop, set, sym, refl, ap, ◌∙◌, ⊎_elim, arith, length-append, length-drop, length-set}
-use Rattle.std.proofs.lemmas.List.{take-append-le, take_more_set, drop-set-add, drop-set-lt, set-append_right, drop_more, drop_all, get_or-take, get_or_append_left, get_or-append_right, get_or-drop, length-take-le}
+use Rattle.std.proofs.Common.{◌≡◌, ℕ, suc, ◌+◌, ◌-◌, ◌<◌, ◌≤◌, List, [], ◌∷◌, ◌++◌, length, get_or, take, drop, set, sym, ap, ◌∙◌, ⊎_elim, arith, length-append, length-drop, length-set}
+use Rattle.std.proofs.lemmas.List.{append-nil, take-take, take-append-le, take_more_set, drop-set-add, drop-set-lt, set-append_right, drop_more, drop_all, get_or-take, get_or_append_left, get_or-append_right, get_or-drop, length-take-le}
+use Rattle.std.proofs.Math.Seq.{take-append-add}
 use Rattle.std.proofs.lemmas.Bool.{cases_lt, lt-ltb, le-ltb, cond-true, cond-false}
 use Rattle.queue.specs.Waiting.{cyclic, place}
 
@@ -15,6 +16,18 @@ module _ {T : Type 0} (xs : List T) (h : ℕ) (at : h ≤ length xs) where
   unfolding cyclic
   cyclic_length n f = length-take-le n (drop h xs ++ xs) (omega (arith, both_length))
 
+  -- what waits, where it does not go round, and where it does
+  pub cyclic_ahead : (n : ℕ) → n ≤ length xs - h → take n (drop h xs) ++ [] ≡ cyclic xs h n
+  unfolding cyclic
+  cyclic_ahead n l = append-nil (take n (drop h xs)) ∙ sym (take-append-le n (drop h xs) xs (omega (arith, front_length)))
+
+  pub cyclic_round : (n k : ℕ) → length xs - h + k ≡ n → k ≤ h → drop h xs ++ take k (take h xs) ≡ cyclic xs h n
+  unfolding cyclic
+  cyclic_round n k e l =
+      ap (λ ys. drop h xs ++ ys) (take-take k h xs l)
+      ∙ sym (take-append-add (drop h xs) xs k)
+      ∙ ap (λ m. take m (drop h xs ++ xs)) (ap (λ m. m + k) front_length ∙ e)
+
   pub place_left : (i : ℕ) → i < length xs - h → place (length xs) h i ≡ h + i
   place_left i l = cond-true _ _ _ (lt-ltb i (length xs - h) l)
 
@@ -25,7 +38,7 @@ module _ {T : Type 0} (xs : List T) (h : ℕ) (at : h ≤ length xs) where
   unfolding cyclic
   cyclic_push n x f =
       ⊎_elim
-      (λ l.
+      (λ (l : n < length xs - h).
       let short : n + 1 ≤ length (drop h xs) = omega (arith, front_length) in
       let short' : n + 1 ≤ length (set (drop h xs) n x) = simp length-set (omega (arith, front_length)) in
       let less : n ≤ length (drop h xs) = omega arith in
@@ -80,7 +93,3 @@ module _ {T : Type 0} (xs : List T) (h : ℕ) (at : h ≤ length xs) where
       ∙ ap (λ ys. get_or xs 0 d ∷ ys) (sym (take-append-le (n - 1) (drop 1 xs) xs tail_long))
       ∙ ap (λ k. get_or xs k d ∷ take (n - 1) (drop (k + 1) xs ++ xs)) (sym same))
       (cases_lt 0 (length xs - h))
-
-pub cyclic_none : {T : Type 0} (xs : List T) (h : ℕ) → cyclic xs h 0 ≡ []
-unfolding cyclic
-cyclic_none xs h = refl

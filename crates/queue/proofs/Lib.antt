@@ -1,2 +1,1 @@
 mod Cyclic
-pub mod Items

@@ -1,5 +1,5 @@
 -- What waits in a queue, oldest first, and where.
-use Rattle.std.specs.Prelude.{ℕ, zero, suc, ◌+◌, ◌-◌, cond, List, [], ◌∷◌, ◌++◌, length, take, drop, Some, None, Option, nat_lt}
+use Rattle.std.specs.Prelude.{ℕ, ◌+◌, ◌-◌, cond, List, ◌++◌, length, take, drop, nat_lt}
 use Rattle.queue.specs.declared.Queue.{Queue}
 
 -- the lent records, in the order of memory
@@ -17,12 +17,6 @@ waiting q = cyclic (records q) q.head q.len
 -- how many may wait
 abbrev pub room : {T : Type 0} → Queue T → ℕ
 room q = length (records q)
-
--- the item at a place of a list, if there is one
-abbrev pub item : {T : Type 0} → List T → ℕ → Option T
-item [] i = None
-item (x ∷ xs) zero = Some x
-item (x ∷ xs) (suc i) = item xs i
 
 -- the i-th place from h on, going round cap places
 abbrev pub place : ℕ → ℕ → ℕ → ℕ

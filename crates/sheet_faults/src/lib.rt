@@ -1,21 +1,13 @@
 // What the calls on a sheet refuse, and how it is told: by a number and by what it names.
 #![tactic(auto)]
 
-ghost use Rattle.std.specs.Prelude.{◌≡◌};
-ghost use Rattle.books.specs.declared.refusal.Refusal.{Refusal};
 ghost use Rattle.sheet_faults.specs.Faults.{open_refusal, post_refusal, take_refusal, docket_refusal, restore_refusal, close_refusal, check_refusal};
 
 use books::refusal::*;
 use slips::fault::SlipFault;
 
-// A fault, by how it is told.
-pub trait Refuses {
-    ghost told: { Self → Refusal };
-
-    fn refusal(&self) -> Refusal
-        ensures { result ≡ told self.now };
-}
-
+// Each call has its own enum, with `Disagrees` in each: one match names each cause of a call, and no cause that it cannot have. A generic enum around
+// the causes would nest each such match.
 #[derive(Clone, Copy, PartialEq, Eq, Debug)]
 pub enum OpenFault {
     // There is not one mark for each piece of the book, or the queue is not empty.
@@ -70,7 +62,7 @@ impl Refuses for OpenFault {
     ghost told = { open_refusal };
 
     fn refusal(&self) -> Refusal {
-        match self {
+        match *self {
             OpenFault::Disagrees => plain(11),
         }
     }
@@ -80,9 +72,9 @@ impl Refuses for PostFault {
     ghost told = { post_refusal };
 
     fn refusal(&self) -> Refusal {
-        match self {
+        match *self {
             PostFault::Disagrees => plain(11),
-            PostFault::PieceOutside(piece) => naming(8, *piece),
+            PostFault::PieceOutside(piece) => naming(8, piece),
             PostFault::QueueFull => plain(12),
         }
     }
@@ -92,7 +84,7 @@ impl Refuses for TakeFault {
     ghost told = { take_refusal };
 
     fn refusal(&self) -> Refusal {
-        match self {
+        match *self {
             TakeFault::Disagrees => plain(11),
             TakeFault::NothingWaits => plain(13),
         }
@@ -103,7 +95,7 @@ impl Refuses for DocketCause {
     ghost told = { docket_refusal };
 
     fn refusal(&self) -> Refusal {
-        match self {
+        match *self {
             DocketCause::Disagrees => plain(11),
             DocketCause::NotOut => plain(14),
         }
@@ -114,10 +106,10 @@ impl Refuses for RestoreFault {
     ghost told = { restore_refusal };
 
     fn refusal(&self) -> Refusal {
-        match self {
+        match *self {
             RestoreFault::Disagrees => plain(11),
-            RestoreFault::PieceOutside(piece) => naming(8, *piece),
-            RestoreFault::NotStruck(piece) => naming(15, *piece),
+            RestoreFault::PieceOutside(piece) => naming(8, piece),
+            RestoreFault::NotStruck(piece) => naming(15, piece),
         }
     }
 }
@@ -126,9 +118,9 @@ impl Refuses for CloseCause {
     ghost told = { close_refusal };
 
     fn refusal(&self) -> Refusal {
-        match self {
+        match *self {
             CloseCause::Disagrees => plain(11),
-            CloseCause::Unsettled(waiting, out) => naming_two(16, *waiting, *out),
+            CloseCause::Unsettled(waiting, out) => naming_two(16, waiting, out),
         }
     }
 }
@@ -137,7 +129,7 @@ impl Refuses for CheckFault {
     ghost told = { check_refusal };
 
     fn refusal(&self) -> Refusal {
-        match self {
+        match *self {
             CheckFault::Disagrees => plain(11),
             CheckFault::Slip(fault) => fault.refusal(),
         }

@@ -1,28 +1,14 @@
 -- When memory agrees with what a sheet counts.
-use Rattle.std.proofs.Common.{◌≡◌, ℕ, ◌<◌, Bool, true, false, eqb, ltb, List, ◌∷◌, length, sym, refl, ap, ◌∙◌}
-use Rattle.std.proofs.lemmas.Bool.{and_left, and_right, and_parts, eqb-true, ne_eqb, eq-eqb, ltb-true}
-use Rattle.books.specs.Table.{Table}
+use Rattle.std.proofs.Common.{◌≡◌, ℕ, ◌<◌, Bool, true, eqb, ltb, List, ◌∷◌, length, sym, refl, ap, ◌∙◌}
+use Rattle.std.proofs.lemmas.Bool.{and_parts, eqb-true, eq-eqb, ltb-true}
 use Rattle.sheet_register.specs.declared.request.Request.{Request}
 use Rattle.sheet_register.specs.Memory.{taken, struck, marked, each, Counts, marks_agree, agrees}
-use Rattle.sheet_register.specs.Calls.{fits}
 
 pub same_counts : {a a' b b' d d' e e' : ℕ} → a ≡ a' → b ≡ b' → d ≡ d' → e ≡ e' → ◌≡◌ {A = Counts} (record { pieces = a; taken = b; struck = d; waiting = e }) (record { pieces = a'; taken = b'; struck = d'; waiting = e' })
 same_counts p q r s = λ i. record { pieces = p i; taken = q i; struck = r i; waiting = s i }
 
 module _ (c : Counts) (ms : List ℕ) where
-  pub no_pieces : (length ms ≡ c.pieces → ⊥) → marks_agree c ms ≡ false
-  unfolding marks_agree
-  no_pieces h = and_left _ _ (ne_eqb _ _ h)
-
-  pub no_lawful : each (λ m. ltb m 3) ms ≡ false → marks_agree c ms ≡ false
-  unfolding marks_agree
-  no_lawful h = and_right (eqb (length ms) c.pieces) _ (and_left _ _ h)
-
-  pub no_taken : (marked taken ms ≡ c.taken → ⊥) → marks_agree c ms ≡ false
-  unfolding marks_agree
-  no_taken h = and_right (eqb (length ms) c.pieces) _ (and_right (each (λ m. ltb m 3) ms) _ (and_left _ _ (ne_eqb _ _ h)))
-
-  pub if_struck : length ms ≡ c.pieces → each (λ m. ltb m 3) ms ≡ true → marked taken ms ≡ c.taken → marks_agree c ms ≡ eqb (marked struck ms) c.struck
+  if_struck : length ms ≡ c.pieces → each (λ m. ltb m 3) ms ≡ true → marked taken ms ≡ c.taken → marks_agree c ms ≡ eqb (marked struck ms) c.struck
   unfolding marks_agree
   if_struck a l b = rw (eq-eqb _ _ a, l, eq-eqb _ _ b) refl
 
@@ -43,25 +29,11 @@ module _ (c : Counts) (ms : List ℕ) where
   pub marks_agreeing : MarksAgreed → marks_agree c ms ≡ true
   marks_agreeing a = if_struck a.pieces a.lawful a.taken ∙ eq-eqb _ _ a.struck
 
--- a book that fits has as many pieces as there are marks
-pub fits_long : (c : Counts) (t : Table) (ms : List ℕ) → fits c t ms ≡ true → length ms ≡ t.count
-fits_long c t ms e =
-    let a = and_parts _ _ e in
-    (marks_agreed c ms a.0).pieces ∙ sym (eqb-true _ _ a.1)
-
 module _ (c : Counts) (ms : List ℕ) (qs : List Request) where
   abbrev names : Bool
   names = each (λ q. ltb q.piece c.pieces) qs
 
-  pub no_marks : marks_agree c ms ≡ false → agrees c ms qs ≡ false
-  unfolding agrees
-  no_marks h = and_left _ _ h
-
-  pub no_waiting : (length qs ≡ c.waiting → ⊥) → agrees c ms qs ≡ false
-  unfolding agrees
-  no_waiting h = and_right (marks_agree c ms) _ (and_left _ _ (ne_eqb _ _ h))
-
-  pub if_named : marks_agree c ms ≡ true → length qs ≡ c.waiting → agrees c ms qs ≡ names
+  if_named : marks_agree c ms ≡ true → length qs ≡ c.waiting → agrees c ms qs ≡ names
   unfolding agrees
   if_named m e = rw (m, eq-eqb _ _ e) refl
 

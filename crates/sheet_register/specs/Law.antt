@@ -1,10 +1,12 @@
 -- The law over runs: along every run the sheet and its memory are as the register says, and every answer is right by it.
 use Rattle.std.specs.Prelude.{◌≡◌, ℕ, ◌+◌, true, false, cond, List, [], ◌∷◌, ◌++◌, map, length, count_by, ◌==◌, ◌≢◌, nat_eq}
+use Rattle.std.specs.List.{flat_map}
 use Rattle.slips.specs.Problem.{problem, live_by}
 use Rattle.slips.specs.Worth.{Least, Barren}
 use Rattle.sheet_register.specs.declared.request.Request.{Request}
 use Rattle.sheet_register.specs.Memory.{free, taken, mark, marked, counted, agrees}
-use Rattle.sheet_register.specs.Calls.{CallOnOpen, post, take, strike, decline, restore, close, Call, on_open, check, reopen, Answer, accepted, given, stale, refused, is_refused, disagreed}
+use Rattle.sheet_register.specs.Calls.{CallOnOpen, post, take, strike, decline, restore, close, Call, on_open}
+use Rattle.sheet_register.specs.Calls.{check, reopen, Answer, accepted, given, stale, refused, is_refused, disagreed}
 use Rattle.sheet_register.specs.Register.{Register, opening, right_answer, fed}
 use Rattle.sheet_register.specs.Runs.{State, Event, Run}
 
@@ -85,8 +87,7 @@ gives (refused r) = []
 
 -- all of a run, in order
 abbrev pub gathered : (Event → List ℕ) → List Event → List ℕ
-gathered f [] = []
-gathered f (e ∷ es) = f e ++ gathered f es
+gathered f es = flat_map f es
 
 abbrev pub posted : List Event → List ℕ
 posted = gathered (if_accepted posts)

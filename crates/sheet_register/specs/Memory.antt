@@ -1,5 +1,6 @@
 -- The memory that is handed to a sheet: marks and waiting requests, and when they agree with what the sheet counts.
-use Rattle.std.specs.Prelude.{ℕ, Bool, true, ◌&&◌, List, [], ◌∷◌, length, count_by, ◌==◌, nat_eq, nat_lt, slice_index_or}
+use Rattle.std.specs.Prelude.{ℕ, Bool, ◌&&◌, List, length, count_by, ◌==◌, nat_eq, nat_lt, slice_index_or}
+use Rattle.std.specs.List.{list_all}
 use Rattle.sheet_register.specs.declared.request.Request.{Request}
 
 -- the marks of a piece, as bytes: free, withdrawal taken, struck; what is handed in may hold any byte
@@ -22,8 +23,7 @@ marked m ms = count_by (λ x. nat_eq x m) ms
 
 -- a test passes at each of a list
 abbrev pub each : {X : Type 0} → (X → Bool) → List X → Bool
-each p [] = true
-each p (x ∷ xs) = p x && each p xs
+each p xs = list_all p xs
 
 -- what a sheet counts: its pieces, the marks 1 and 2 among them, the requests that wait
 pub record Counts : Type 0 where

@@ -4,7 +4,8 @@ use Rattle.books.specs.Table.{Table, Sound}
 use Rattle.slips.specs.View.{View}
 use Rattle.sheet_register.specs.declared.request.Request.{Request}
 use Rattle.sheet_register.specs.Memory.{Counts, counted, agrees}
-use Rattle.sheet_register.specs.Calls.{Memory, CallOnOpen, Call, on_open, check, reopen, Answer, accepted, is_refused, answer_by, fits, marks_after, waiting_after, open_after}
+use Rattle.sheet_register.specs.Calls.{Memory, CallOnOpen, Call, on_open, check, reopen, Answer}
+use Rattle.sheet_register.specs.Calls.{accepted, is_refused, answer_by, fits, marks_after, waiting_after, open_after}
 use Rattle.sheet_register.specs.Register.{allows}
 
 -- a sheet, by its numbers

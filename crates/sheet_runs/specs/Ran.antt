@@ -12,7 +12,8 @@ use Rattle.sheets.specs.Views.{state}
 use Rattle.sheets.specs.Served.{Served, moved, came_back, call_view}
 
 -- the event of a call that the sheet allows; none of one that came back
-abbrev pub events_of : {B : Type 0} {means : B → Table} {s s' : SheetView} {m m' : Memory} {c : Call B} {r : Answer B} → Served means s m c r s' m' → List Event
+abbrev pub events_of : {B : Type 0} {means : B → Table} {s s' : SheetView} {m m' : Memory} {c : Call B} {r : Answer B}
+    → Served means s m c r s' m' → List Event
 events_of {means = means} {m = m} {c = c} (moved a e may own other back) = record { call = call_view means m c; answer = a } ∷ []
 events_of (came_back shut r s m) = []
 
@@ -23,14 +24,16 @@ pub data Made {B : Type 0} (means : B → Table) (s : SheetView) (m : Memory) : 
       → Made means s m cs rs es s₁ m₁ → (x : Served means s₁ m₁ c r s₂ m₂) → Made means s m (cs ++ c ∷ []) (rs ++ r ∷ []) (es ++ events_of x) s₂ m₂
 
 -- these calls, with these answers: a run of the sheet, which keeps to whatever register the sheet and its memory were kept by
-pub record Ran {B : Type 0} (means : B → Table) (s : SheetView) (m : Memory) (calls : List (Call B)) (answers : List (Answer B)) (s' : SheetView) (m' : Memory) : Type 0 where
+pub record Ran {B : Type 0} (means : B → Table) (s : SheetView) (m : Memory) (calls : List (Call B)) (answers : List (Answer B))
+    (s' : SheetView) (m' : Memory) : Type 0 where
   pub events : List Event
   pub made : Made means s m calls answers events s' m'
   pub run : Run (state s m.marks m.waiting) events (state s' m'.marks m'.waiting)
   pub held : (g : Register) → Kept g (state s m.marks m.waiting) → Held g events (state s' m'.marks m'.waiting)
 
 -- all calls were made, and their answers stand behind those that were there
-pub record AllMade {B : Type 0} (means : B → Table) (s : SheetView) (m : Memory) (calls calls' : List (Call B)) (answers answers' : List (Answer B)) (s' : SheetView) (m' : Memory) : Type 0 where
+pub record AllMade {B : Type 0} (means : B → Table) (s : SheetView) (m : Memory) (calls calls' : List (Call B))
+    (answers answers' : List (Answer B)) (s' : SheetView) (m' : Memory) : Type 0 where
   pub none_left : calls' ≡ []
   pub new : List (Answer B)
   pub answered : answers' ≡ answers ++ new

@@ -1,7 +1,7 @@
 // Runs a list of calls on a sheet.
 #![tactic(auto)]
 
-ghost use Rattle.std.specs.Prelude.{◌≡◌, [], vec_capacity, MatchResult};
+ghost use Rattle.std.specs.Prelude.{◌≡◌, [], vec_capacity, IfOk, IfErr};
 ghost use Rattle.books.specs.Table.{Table};
 ghost use Rattle.sheets.specs.Views.{memory};
 ghost use Rattle.sheets.specs.Served.{sheet_view};
@@ -24,15 +24,16 @@ pub fn run_calls<'a, B: CostBook>(
     calls: &mut VecDeque<Call<'a, B>>,
     answers: &mut Vec<Answer<'a, B>>,
 ) -> Result<Sheet, AllocFailed<Sheet>>
-    ensures { MatchResult result
-        (λ s. AllMade B.CostBook.means (sheet_view sheet) (memory marks.old queue.old) calls.old.items calls.new.items answers.old.items answers.new.items (sheet_view s) (memory marks.new queue.new))
-        (λ f. NoneMade sheet f.value (memory marks.old queue.old) (memory marks.new queue.new) calls.old.items calls.new.items answers.old.items answers.new.items (vec_capacity answers.old)) }
+    ensures made { IfOk result (λ s. AllMade B.CostBook.means (sheet_view sheet) (memory marks.old queue.old) calls.old.items calls.new.items
+        answers.old.items answers.new.items (sheet_view s) (memory marks.new queue.new)) }
+    ensures none_made { IfErr result (λ f. NoneMade sheet f.value (memory marks.old queue.old) (memory marks.new queue.new) calls.old.items calls.new.items
+        answers.old.items answers.new.items (vec_capacity answers.old)) }
 {
     runs_by_law();
-    let count = calls.len();
-    if answers.reserve(count).is_err() {
+    if answers.reserve(calls.len()).is_err() {
         return Err(AllocFailed { value: sheet });
     }
+    // Not by `drain`, which would drop the calls that are left, and a call may hold a docket.
     while let Some(call) = calls.pop_front() {
         let (after, answer) = serve(sheet, marks, queue, call);
         sheet = after;

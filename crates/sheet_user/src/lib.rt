@@ -37,6 +37,7 @@ fn strike_oldest(
 ) -> Result<(), DocketFault> {
     match sheet.take(marks, queue) {
         Ok(Taken::Given(docket)) => strike_one(sheet, marks, queue, docket),
+        // Two arms: with one pattern for both the checker takes the docket of a `Taken` for dropped.
         Ok(Taken::Stale(_)) => Ok(()),
         Err(_) => Ok(()),
     }

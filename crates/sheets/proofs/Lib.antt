@@ -1,1 +1,3 @@
+mod Agreeing
+mod MarkBytes
 mod Serving

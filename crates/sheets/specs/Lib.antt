@@ -1,3 +1,4 @@
+pub mod Marks
 pub mod Views
 pub mod Answers
 pub mod Served

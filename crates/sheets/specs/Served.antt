@@ -5,7 +5,8 @@ use Rattle.slips.specs.View.{view}
 use Rattle.queue.specs.declared.Queue.{Queue}
 use Rattle.queue.specs.Waiting.{records, free_place}
 use Rattle.sheet_register.specs.declared.request.Request.{Request}
-use Rattle.sheet_register.specs.Calls.{Memory, CallOnOpen, post, take, strike, decline, restore, close, on_open, check, reopen, accepted, given, stale, refused, is_refused, disagrees}
+use Rattle.sheet_register.specs.Calls.{Memory, CallOnOpen, post, take, strike, decline, restore, close}
+use Rattle.sheet_register.specs.Calls.{on_open, check, reopen, accepted, given, stale, refused, is_refused, disagrees}
 use Rattle.sheet_register.specs.Calls.{Call as Called, Answer as Told}
 use Rattle.sheet_register.specs.Register.{allows}
 use Rattle.sheet_register.specs.Runs.{SheetView, Move}
@@ -65,6 +66,11 @@ dockets_back (Answer.Stale q) = []
 dockets_back (Answer.Refused r) = []
 dockets_back (Answer.DocketRefused r d) = d ∷ []
 dockets_back (Answer.NotAllowed c) = dockets_in c
+
+-- an answer tells this, and these dockets come back
+pub record Tells {B : Type 0} (r : Answer B) (a : Told) (ds : List Docket) : Type 0 where
+  pub view : answer_view r ≡ Some a
+  pub back : dockets_back r ≡ ds
 
 -- the request that is written into a record of the queue, by an accepted post alone
 abbrev pub request_of : OpenCall → List Request

@@ -18,7 +18,11 @@ open_view s = record { number = s.number; counts = record { pieces = s.pieces; t
 -- a sheet that counts one docket less
 abbrev pub one_less : SheetView → SheetView
 one_less s =
-    record { number = s.number; counts = record { pieces = s.counts.pieces; taken = s.counts.taken - 1; struck = s.counts.struck; waiting = s.counts.waiting }; is_open = s.is_open }
+    record {
+      number = s.number;
+      counts = record { pieces = s.counts.pieces; taken = s.counts.taken - 1; struck = s.counts.struck; waiting = s.counts.waiting };
+      is_open = s.is_open;
+    }
 
 -- a closed sheet counts no docket out and no request waiting
 abbrev pub closed_view : ClosedSheet → SheetView

@@ -2,15 +2,15 @@
 use crate::sheet::{Docket, OpenSheet};
 use sheet_faults::{CloseCause, DocketCause};
 
-// A docket that was neither struck nor declined, and why.
-pub struct DocketFault {
-    pub docket: Docket,
-    pub cause: DocketCause,
+// What a refused call was handed, and why it was refused. It may be dropped where both may.
+#[derive(Drop)]
+pub struct HandedBack<T, C> {
+    pub value: T,
+    pub cause: C,
 }
 
+// A docket that was neither struck nor declined, and why.
+pub type DocketFault = HandedBack<Docket, DocketCause>;
+
 // A sheet that stays open, and why.
-#[derive(Drop)]
-pub struct CloseFault {
-    pub sheet: OpenSheet,
-    pub cause: CloseCause,
-}
+pub type CloseFault = HandedBack<OpenSheet, CloseCause>;

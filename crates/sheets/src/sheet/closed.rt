@@ -39,15 +39,14 @@ impl ClosedSheet {
 
     // Checks a slip by any book of the sheet's count: that it passes, or the first test that fails.
     pub fn check<B: CostBook>(&self, book: &B, marks: &[u8], slip: &Slip) -> Result<(), CheckFault>
-        ensures answer { (waiting : List Asked) → answer check_refusal result ≡ answer_by self.now.number (closed_view self.now).counts marks.now waiting (check (B.CostBook.means book.now) marks.now (view slip.now)) }
-        ensures law { fits (closed_view self.now).counts (B.CostBook.means book.now) marks.now ≡ true → VerdictLaw (B.CostBook.means book.now) marks.now (view slip.now) }
+        ensures answer { (waiting : List Asked) → answer check_refusal result
+            ≡ answer_by self.now.number (closed_view self.now).counts marks.now waiting (check (B.CostBook.means book.now) marks.now (view slip.now)) }
+        ensures law { fits (closed_view self.now).counts (B.CostBook.means book.now) marks.now ≡ true
+            → VerdictLaw (B.CostBook.means book.now) marks.now (view slip.now) }
     {
         if !self.fits(book, marks) {
             return Err(CheckFault::Disagrees);
         }
-        match slip_check::check::check(book, marks, slip) {
-            Ok(()) => Ok(()),
-            Err(fault) => Err(CheckFault::Slip(fault)),
-        }
+        slip_check::check::check(book, marks, slip).map_err(CheckFault::Slip)
     }
 }

@@ -1,11 +1,12 @@
 // The calls on an open sheet.
-ghost use Rattle.std.specs.Prelude.{◌≡◌, ◌<◌, true, length, is_ok, IfErr, if◌then◌else◌, MatchResult, OnOk, ◌==◌, slice_set};
+ghost use Rattle.std.specs.Prelude.{◌≡◌, ◌<◌, true, ◌&&◌, ◌==◌, length, is_ok, IfOk, IfErr, OnOk, OnErr, if◌then◌else◌, nat_lt, slice_set};
 ghost use Rattle.queue.specs.Waiting.{waiting, records, free_place};
-ghost use Rattle.sheet_register.specs.Memory.{agrees};
+ghost use Rattle.sheet_register.specs.Memory.{mark as mark_of, agrees};
 ghost use Rattle.sheet_register.specs.Calls.{post, take, strike, decline, restore, close, is_out, settled, refused, disagreed};
 ghost use Rattle.sheet_register.specs.Runs.{Did};
 ghost use Rattle.sheet_register.specs.Law.{Settled};
 ghost use Rattle.sheet_faults.specs.Faults.{post_refusal, restore_refusal};
+ghost use Rattle.sheets.specs.Marks.{mark_byte};
 ghost use Rattle.sheets.specs.Views.{docket_view, open_view, one_less, memory};
 ghost use Rattle.sheets.specs.Answers.{answer, take_answer, docket_told, close_answer, left_by};
 
@@ -17,38 +18,39 @@ use queue::Queue;
 use sheet_faults::*;
 use sheet_register::request::Request;
 
-// What became of the oldest request: a docket, or the request itself where its piece is not free any more.
+// What became of the oldest request: a docket, or the request itself where its piece is not free any more. An accepted call gives either, so neither
+// is an error.
 pub enum Taken {
     Given(Docket),
     Stale(Request),
 }
 
-fn is_mark(m: u8, mark: u8) -> bool
-    ensures { result ≡ (m == mark) }
+// Whether a number is that of a piece with this mark.
+fn has_mark(marks: &[u8], piece: usize, mark: Mark) -> bool
+    ensures { result ≡ (nat_lt piece (length marks.now) && mark_of marks.now piece == mark_byte mark) }
 {
-    m == mark
+    let byte = u8::from(mark);
+    marks.get(piece).is_some_and(|m| *m == byte)
 }
 
 // Writes the mark of a piece.
-fn set_mark(marks: &mut [u8], piece: usize, mark: u8)
+fn set_mark(marks: &mut [u8], piece: usize, mark: Mark)
     requires { piece < length marks.old }
-    ensures { marks.new ≡ slice_set marks.old piece mark }
+    ensures { marks.new ≡ slice_set marks.old piece (mark_byte mark) }
 {
-    marks[piece] = mark;
+    marks[piece] = mark.into();
 }
 
+// Each call is lent marks and queue apart, and each for writing only where the call writes it: one struct of both would ask for writing of all.
 impl OpenSheet {
     // Whether marks and queue agree with what the sheet counts.
+    #[tactic(auto, unfolding(sheet_register::specs::Memory::agrees))]
     fn agrees(&self, marks: &[u8], queue: &Queue<'_, Request>) -> bool
         ensures { result ≡ agrees (open_view self.now).counts marks.now (waiting queue.now) }
     {
-        if !marks_agree(marks, self.pieces, self.taken, self.struck) {
-            return false;
-        }
-        if queue.len() != self.waiting {
-            return false;
-        }
-        are_named(queue, self.pieces)
+        marks_agree(marks, self.pieces, self.taken, self.struck)
+            && queue.len() == self.waiting
+            && are_named(queue, self.pieces)
     }
 
     // Puts a request last.
@@ -58,7 +60,8 @@ impl OpenSheet {
         queue: &mut Queue<'_, Request>,
         request: Request,
     ) -> Result<(), PostFault>
-        ensures did { Did (post request) (open_view self.old) (memory marks.now queue.old) (answer post_refusal result) (open_view self.new) (memory marks.now queue.new) }
+        ensures did { Did (post request) (open_view self.old) (memory marks.now queue.old) (answer post_refusal result)
+            (open_view self.new) (memory marks.now queue.new) }
         ensures records { records queue.new ≡ (if is_ok result then slice_set (records queue.old) (free_place queue.old) request else records queue.old) }
     {
         if !self.agrees(marks, queue) {
@@ -67,9 +70,7 @@ impl OpenSheet {
         if request.piece >= self.pieces {
             return Err(PostFault::PieceOutside(request.piece));
         }
-        if !queue.push(request) {
-            return Err(PostFault::QueueFull);
-        }
+        queue.push(request).map_err(|_| PostFault::QueueFull)?;
         self.waiting = queue.len();
         Ok(())
     }
@@ -91,11 +92,10 @@ impl OpenSheet {
         };
         self.waiting = queue.len();
         let piece = request.piece;
-        let mark = marks[piece];
-        if !is_mark(mark, FREE) {
+        if !has_mark(marks, piece, Mark::Free) {
             return Ok(Taken::Stale(request));
         }
-        set_mark(marks, piece, TAKEN);
+        set_mark(marks, piece, Mark::Taken);
         self.taken += 1;
         Ok(Taken::Given(Docket {
             sheet: self.number,
@@ -107,14 +107,7 @@ impl OpenSheet {
     fn is_out(&self, marks: &[u8], docket: &Docket) -> bool
         ensures { result ≡ is_out self.now.number marks.now (docket_view docket.now) }
     {
-        if docket.sheet != self.number {
-            return false;
-        }
-        let piece = docket.piece;
-        if piece >= marks.len() {
-            return false;
-        }
-        is_mark(marks[piece], TAKEN)
+        docket.sheet == self.number && has_mark(marks, docket.piece, Mark::Taken)
     }
 
     // Takes a docket apart where it is out, and gives its piece.
@@ -124,22 +117,28 @@ impl OpenSheet {
         queue: &Queue<'_, Request>,
         docket: Docket,
     ) -> Result<usize, DocketFault>
-        ensures { MatchResult result
-            (λ piece. (agrees (open_view self.old).counts marks.now (waiting queue.now) ≡ true)
-            × (is_out self.old.number marks.now (docket_view docket) ≡ true)
-            × (piece ≡ docket.piece)
-            × (open_view self.new ≡ one_less (open_view self.old)))
-            (λ f. (refused (docket_told f) ≡ (if agrees (open_view self.old).counts marks.now (waiting queue.now) then settled self.old.number marks.now (docket_view docket) else disagreed))
-            × (f.docket ≡ docket)
-            × (open_view self.new ≡ open_view self.old)) }
+        ensures agrees { OnOk result (agrees (open_view self.old).counts marks.now (waiting queue.now) ≡ true) }
+        ensures out { OnOk result (is_out self.old.number marks.now (docket_view docket) ≡ true) }
+        ensures piece { IfOk result (λ piece. piece ≡ docket.piece) }
+        ensures inside { IfOk result (λ piece. piece < length marks.now) }
+        ensures spent { OnOk result (open_view self.new ≡ one_less (open_view self.old)) }
+
+        ensures refused { IfErr result (λ f. refused (docket_told f)
+            ≡ (if agrees (open_view self.old).counts marks.now (waiting queue.now) then settled self.old.number marks.now (docket_view docket) else disagreed)) }
+        ensures back { IfErr result (λ f. f.value ≡ docket) }
+        ensures err { OnErr result (open_view self.new ≡ open_view self.old) }
     {
         if !self.agrees(marks, queue) {
-            let cause = DocketCause::Disagrees;
-            return Err(DocketFault { docket, cause });
+            return Err(HandedBack {
+                value: docket,
+                cause: DocketCause::Disagrees,
+            });
         }
         if !self.is_out(marks, &docket) {
-            let cause = DocketCause::NotOut;
-            return Err(DocketFault { docket, cause });
+            return Err(HandedBack {
+                value: docket,
+                cause: DocketCause::NotOut,
+            });
         }
         let Docket { sheet: _, piece } = docket;
         self.taken -= 1;
@@ -153,11 +152,12 @@ impl OpenSheet {
         queue: &Queue<'_, Request>,
         docket: Docket,
     ) -> Result<(), DocketFault>
-        ensures did { Did (strike (docket_view docket)) (open_view self.old) (memory marks.old queue.now) (answer docket_told result) (open_view self.new) (memory marks.new queue.now) }
-        ensures back { IfErr result (λ f. f.docket ≡ docket) }
+        ensures did { Did (strike (docket_view docket)) (open_view self.old) (memory marks.old queue.now) (answer docket_told result)
+            (open_view self.new) (memory marks.new queue.now) }
+        ensures back { IfErr result (λ f. f.value ≡ docket) }
     {
         let piece = self.spend(marks, queue, docket)?;
-        set_mark(marks, piece, STRUCK);
+        set_mark(marks, piece, Mark::Struck);
         self.struck += 1;
         Ok(())
     }
@@ -169,11 +169,12 @@ impl OpenSheet {
         queue: &Queue<'_, Request>,
         docket: Docket,
     ) -> Result<(), DocketFault>
-        ensures did { Did (decline (docket_view docket)) (open_view self.old) (memory marks.old queue.now) (answer docket_told result) (open_view self.new) (memory marks.new queue.now) }
-        ensures back { IfErr result (λ f. f.docket ≡ docket) }
+        ensures did { Did (decline (docket_view docket)) (open_view self.old) (memory marks.old queue.now) (answer docket_told result)
+            (open_view self.new) (memory marks.new queue.now) }
+        ensures back { IfErr result (λ f. f.value ≡ docket) }
     {
         let piece = self.spend(marks, queue, docket)?;
-        set_mark(marks, piece, FREE);
+        set_mark(marks, piece, Mark::Free);
         Ok(())
     }
 
@@ -184,7 +185,8 @@ impl OpenSheet {
         queue: &Queue<'_, Request>,
         piece: usize,
     ) -> Result<(), RestoreFault>
-        ensures did { Did (restore piece) (open_view self.old) (memory marks.old queue.now) (answer restore_refusal result) (open_view self.new) (memory marks.new queue.now) }
+        ensures did { Did (restore piece) (open_view self.old) (memory marks.old queue.now) (answer restore_refusal result)
+            (open_view self.new) (memory marks.new queue.now) }
     {
         if !self.agrees(marks, queue) {
             return Err(RestoreFault::Disagrees);
@@ -192,10 +194,10 @@ impl OpenSheet {
         if piece >= marks.len() {
             return Err(RestoreFault::PieceOutside(piece));
         }
-        if !is_mark(marks[piece], STRUCK) {
+        if !has_mark(marks, piece, Mark::Struck) {
             return Err(RestoreFault::NotStruck(piece));
         }
-        set_mark(marks, piece, FREE);
+        set_mark(marks, piece, Mark::Free);
         self.struck -= 1;
         Ok(())
     }
@@ -207,11 +209,11 @@ impl OpenSheet {
     {
         if !self.agrees(marks, queue) {
             let cause = CloseCause::Disagrees;
-            return Err(CloseFault { sheet: self, cause });
+            return Err(HandedBack { value: self, cause });
         }
         if self.waiting != 0 || self.taken != 0 {
             let cause = CloseCause::Unsettled(self.waiting, self.taken);
-            return Err(CloseFault { sheet: self, cause });
+            return Err(HandedBack { value: self, cause });
         }
         Ok(ClosedSheet {
             number: self.number,

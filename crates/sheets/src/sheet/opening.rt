@@ -8,27 +8,12 @@ ghost use Rattle.sheet_register.specs.Law.{Kept, Law, NothingLeft};
 ghost use Rattle.sheets.specs.Views.{open_view, state};
 
 use super::OpenSheet;
-use crate::marks::FREE;
+use crate::marks::Mark;
 use books::book::CostBook;
 use queue::Queue;
 use sheet_faults::OpenFault;
 use sheet_register::law::runs_by_law;
 use sheet_register::request::Request;
-
-// Whether there is one mark for each piece, and nothing waits.
-fn is_blank(marks: usize, pieces: usize, waiting: usize) -> bool
-    ensures { result ≡ (marks == pieces && waiting == 0) }
-{
-    marks == pieces && waiting == 0
-}
-
-fn clear(marks: &mut [u8])
-    ensures { marks.new ≡ replicate (length marks.old) free }
-{
-    for m in marks.iter_mut() {
-        *m = FREE;
-    }
-}
 
 impl OpenSheet {
     // Opens a sheet for the pieces of a book, all of them free. Along every run of calls from here the sheet and its memory are as the register says.
@@ -45,10 +30,10 @@ impl OpenSheet {
         ensures closes { IfOk result (λ s. NothingLeft (state (open_view s) marks.new (waiting queue.now))) }
     {
         let pieces = book.count();
-        if !is_blank(marks.len(), pieces, queue.len()) {
+        if marks.len() != pieces || !queue.is_empty() {
             return Err(OpenFault::Disagrees);
         }
-        clear(marks);
+        marks.fill(Mark::Free.into());
         runs_by_law();
         Ok(OpenSheet {
             number,

@@ -1,25 +1,27 @@
-use Rattle.std.proofs.Common.{sym, refl}
+use Rattle.std.proofs.Common.{◌≡◌, ◌<◌, [], ◌∷◌, ◌++◌, length, Err, IsErr, rules, sym, refl}
 use Rattle.queue.specs.Waiting.{waiting, room}
+use Rattle.sheet_faults.specs.declared.PostFault.{PostFault}
 use Rattle.sheet_register.proofs.Steps.{post_outside, post_full, posted}
-use Rattle.sheets.specs.Views.{open_view}
+use Rattle.sheets.proofs.Agreeing.{memory_agreed}
 use Rattle.sheets.proofs.sheet.OpenSheet.post.Goals as goal
 
 pub returns-then-request-self : goal.returns-then-request-self
 returns-then-request-self c =
-    let s = c.args.self.now in
-    let q = c.args.queue.now in
-    record { did = post_outside s.number (open_view s).counts c.args.marks.now (waiting q) (room q) (sym c.if-not-agrees.ensures) c.args.request c.if-request-self.true; records = refl }
+    let a = memory_agreed c.args.self.now c.args.marks.now c.args.queue.now (sym c.if-not-agrees.ensures) in
+    record { did = post_outside a c.args.request c.if-request-self.true; records = refl }
 
-pub returns-then-not-push : goal.returns-then-not-push
-returns-then-not-push c =
-    let s = c.args.self.now in
-    let q = c.args.queue.now in
-    let p = c.if-not-push.ensures in
-    record { did = post_full s.number (open_view s).counts c.args.marks.now (waiting q) (room q) (sym c.if-not-agrees.ensures) c.args.request c.if-request-self.false _ _ p.fits p.after p.room; records = p.records }
+pub returns-in_err-map_err : goal.returns-in_err-map_err
+returns-in_err-map_err c =
+    let a = memory_agreed c.args.self.now c.args.marks.now c.args.queue.now (sym c.if-not-agrees.ensures) in
+    let no : IsErr c.push.result = search rules in
+    let told : c.from_residual.result ≡ Err PostFault.QueueFull = search rules in
+    let same : c.push.new.self ≡ c.args.queue.now = search rules in
+    let full : length (waiting c.args.queue.now) < room c.args.queue.now → ⊥ = search rules in
+    rw (told, same) (record { did = post_full a c.args.request c.if-request-self.false full; records = refl })
 
 pub returns : goal.returns
 returns c =
-    let s = c.args.self.now in
-    let q = c.args.queue.now in
-    let p = c.if-not-push.ensures in
-    record { did = posted s.number (open_view s).counts c.args.marks.now (waiting q) (room q) (sym c.if-not-agrees.ensures) c.args.request c.if-request-self.false _ _ _ p.fits p.after p.room c.len-self.ensures; records = p.records }
+    let a = memory_agreed c.args.self.now c.args.marks.now c.args.queue.now (sym c.if-not-agrees.ensures) in
+    let free : length (waiting c.args.queue.now) < room c.args.queue.now = search rules in
+    let last : waiting c.push.new.self ≡ waiting c.args.queue.now ++ c.args.request ∷ [] = search rules in
+    record { did = posted a c.args.request c.if-request-self.false free last c.push.ensures.room c.len-self.ensures; records = search rules }
