@@ -1,94 +1,80 @@
 // 127 groups, each inside the next, over 256 pieces.
 use crate::sheets::*;
 use slips::fault::SlipFault;
-use slips::slip::PRICED;
+use slips::slip::Kind;
 use std::alloc::{AllocError, Global};
+use std::iter::once;
 use std::test::Fail;
 
 // The innermost group around a piece: 1 for 0, 1 and 2, 2 for 3 and 4, and so on, none for 255.
-fn innermost(u: u16) -> u16 {
-    match u {
+fn innermost(piece: u8) -> u8 {
+    match piece {
         0 => 1,
         255 => 0,
-        _ => (u - 1) / 2 + 1,
+        _ => piece.div_ceil(2),
     }
 }
 
 // How far out a piece stands. What the prices of two pieces and of the groups around just one of them come to
 // is the difference of the two: each group has the price 1, piece 255 too, and the others have 0.
-fn level(u: u16) -> u16 {
-    if u == 255 { 129 } else { innermost(u) }
+fn level(piece: u8) -> u8 {
+    if piece == 255 { 129 } else { innermost(piece) }
 }
 
 // The mates are 0 and 255, 1 and 2, 3 and 4, and so on.
-fn mate(u: u16) -> u16 {
-    match u {
+fn mate(piece: u8) -> u8 {
+    match piece {
         0 => 255,
-        1..=254 => { if u % 2 == 1 { u + 1 } else { u - 1 } }
-        _ => 0,
+        255 => 0,
+        _ if piece % 2 == 1 => piece + 1,
+        _ => piece - 1,
     }
 }
 
 // The least cost that leaves no margin below 0; 0 for mates that share their groups, and 64 for 0 and 255.
-fn least_cost(lower: u16, higher: u16) -> u32 {
-    let inner = u32::from(level(lower));
-    let outer = u32::from(level(higher));
-    if inner < outer {
-        (outer - inner + 1) / 2
-    } else {
-        0
-    }
+fn least_cost(lower: u8, higher: u8) -> u8 {
+    level(higher).saturating_sub(level(lower)).div_ceil(2)
 }
 
 // 3,960 pairs: piece 0 with every other, and the others that are no more than 15 apart.
-fn pairs(heap: Global) -> Result<Vec<Pair>, AllocError> {
-    let mut all = Vec::new(heap);
-    for lower in 0..256u16 {
-        for higher in lower + 1..256u16 {
-            if lower == 0 || higher - lower <= 15 {
-                all.push((
-                    usize::from(lower),
-                    usize::from(higher),
-                    least_cost(lower, higher),
-                ))?;
-            }
-        }
-    }
-    Ok(all)
+fn lines(heap: Global) -> Result<Vec<(usize, usize, u32)>, AllocError> {
+    (0..=u8::MAX)
+        .flat_map(|lower| (lower..=u8::MAX).skip(1).map(move |higher| (lower, higher)))
+        .filter(|&(lower, higher)| lower == 0 || higher.abs_diff(lower) <= 15)
+        .map(|(lower, higher)| (
+            usize::from(lower),
+            usize::from(higher),
+            u32::from(least_cost(lower, higher)),
+        ))
+        .collect(heap)
 }
 
-fn said(heap: Global) -> Result<Vec<Said>, AllocError> {
-    let mut all = Vec::new(heap);
-    for u in 0..256u16 {
-        let price = if u == 255 { 1 } else { 0 };
-        all.push((mate(u), price, innermost(u)))?;
-    }
-    Ok(all)
+fn pieces(heap: Global) -> Result<Vec<(u16, i64, u16)>, AllocError> {
+    (0..=u8::MAX)
+        .map(|piece| (
+            u16::from(mate(piece)),
+            i64::from(piece == 255),
+            u16::from(innermost(piece)),
+        ))
+        .collect(heap)
 }
 
-fn around(heap: Global) -> Result<Vec<Around>, AllocError> {
-    let mut all = Vec::new(heap);
-    for g in 1..127u16 {
-        all.push((1, g + 1))?;
-    }
-    all.push((1, 0))?;
-    Ok(all)
-}
-
-fn chain(heap: Global) -> Result<Sheet, AllocError> {
-    let pairs = pairs(heap)?;
-    let said = said(heap)?;
-    let around = around(heap)?;
+fn chain(heap: Global) -> Result<Sheet, Fail> {
+    let lines = lines(heap)?;
+    let pieces = pieces(heap)?;
+    let groups: Vec<(i64, u16)> = (2..=127)
+        .chain(once(0))
+        .map(|parent| (1, parent))
+        .collect(heap)?;
     let draft = Draft {
-        pairs: &pairs,
+        lines: &lines,
         marks: &[0; 256],
-        kind: PRICED,
+        kind: Kind::Priced,
         total: 64,
-        count: 127,
-        said: &said,
-        around: &around,
+        pieces: &pieces,
+        groups: &groups,
     };
-    sheet_of(heap, draft)
+    draft.sheet(heap)
 }
 
 #[test]

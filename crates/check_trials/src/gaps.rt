@@ -27,47 +27,46 @@ fn a_gap_slip_that_says_more_fails(rt: HostRuntime) -> Result<(), Fail> {
         Edit::Mark(3, 2),
         Edit::Mark(1, 255),
     ];
-    fails_alike(&rt, rt.alloc(), Example::Star, &edits, SlipFault::Gap)
+    for edit in edits {
+        answers(&rt, STAR.sheet(rt.alloc())?, &[edit], Err(SlipFault::Gap))?;
+    }
+    Ok(())
 }
 
 #[test]
 fn parts_that_are_joined_or_too_few(rt: HostRuntime) -> Result<(), Fail> {
-    let told = [
+    let told: &[(Draft, &[Edit])] = &[
         // Piece 0 pairs with pieces of other parts.
-        (Example::Star, Edit::Group(0, 4), Edit::Keep, SlipFault::Gap),
-        (Example::Star, Edit::Group(0, 1), Edit::Keep, SlipFault::Gap),
-        (Example::Star, Edit::Group(0, 3), Edit::Keep, SlipFault::Gap),
+        (STAR, &[Edit::Group(0, 4)]),
+        (STAR, &[Edit::Group(0, 1)]),
+        (STAR, &[Edit::Group(0, 3)]),
         // As many odd parts as cut pieces: two of each, then one, and fewer odd parts.
-        (Example::Star, Edit::Group(3, 0), Edit::Keep, SlipFault::Gap),
-        (Example::Star, Edit::Group(2, 3), Edit::Keep, SlipFault::Gap),
-        (
-            Example::Star,
-            Edit::Group(1, 0),
-            Edit::Group(2, 0),
-            SlipFault::Gap,
-        ),
+        (STAR, &[Edit::Group(3, 0)]),
+        (STAR, &[Edit::Group(2, 3)]),
+        (STAR, &[Edit::Group(1, 0), Edit::Group(2, 0)]),
         // One piece that is cut, and none that is live.
-        (Example::One, Edit::Group(0, 0), Edit::Keep, SlipFault::Gap),
-        (
-            Example::One,
-            Edit::Group(0, 0),
-            Edit::Mark(0, 2),
-            SlipFault::Gap,
-        ),
+        (ONE, &[Edit::Group(0, 0)]),
+        (ONE, &[Edit::Group(0, 0), Edit::Mark(0, 2)]),
     ];
-    all_fail(&rt, rt.alloc(), &told)
+    for &(draft, edits) in told {
+        answers(&rt, draft.sheet(rt.alloc())?, edits, Err(SlipFault::Gap))?;
+    }
+    Ok(())
 }
 
 #[test]
 fn other_parts_that_pass(rt: HostRuntime) -> Result<(), Fail> {
-    let passing = [
-        (Example::Star, Edit::Group(1, 256), Edit::Keep),
-        (Example::Star, Edit::Group(1, 4), Edit::Group(3, 256)),
+    let passing: &[(Draft, &[Edit])] = &[
+        (STAR, &[Edit::Group(1, 256)]),
+        (STAR, &[Edit::Group(1, 4), Edit::Group(3, 256)]),
         // A piece struck: the cut one, another, and one of a part of four, which leaves three.
-        (Example::Star, Edit::Mark(0, 2), Edit::Keep),
-        (Example::Star, Edit::Mark(3, 2), Edit::Group(3, 0)),
-        (Example::Whole, Edit::Mark(0, 2), Edit::Group(0, 0)),
-        (Example::One, Edit::Group(0, 256), Edit::Keep),
+        (STAR, &[Edit::Mark(0, 2)]),
+        (STAR, &[Edit::Mark(3, 2), Edit::Group(3, 0)]),
+        (WHOLE, &[Edit::Mark(0, 2), Edit::Group(0, 0)]),
+        (ONE, &[Edit::Group(0, 256)]),
     ];
-    all_pass(&rt, rt.alloc(), &passing)
+    for &(draft, edits) in passing {
+        answers(&rt, draft.sheet(rt.alloc())?, edits, Ok(()))?;
+    }
+    Ok(())
 }

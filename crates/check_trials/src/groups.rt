@@ -18,7 +18,10 @@ fn the_count_has_a_limit(rt: HostRuntime) -> Result<(), Fail> {
         (Edit::Count(0), SlipFault::Piece(0)),
         (Edit::Group(2, 3), SlipFault::Piece(2)),
     ];
-    fails_by(&rt, rt.alloc(), Example::Rings, &told)
+    for (edit, fault) in told {
+        answers(&rt, RINGS.sheet(rt.alloc())?, &[edit], Err(fault))?;
+    }
+    Ok(())
 }
 
 #[test]
@@ -48,59 +51,58 @@ fn records_prices_and_parents_of_groups(rt: HostRuntime) -> Result<(), Fail> {
         (Edit::Group(2, 2), SlipFault::Group(1)),
         (Edit::Parent(1, 2), SlipFault::Group(2)),
     ];
-    fails_by(&rt, rt.alloc(), Example::Rings, &told)
+    for (edit, fault) in told {
+        answers(&rt, RINGS.sheet(rt.alloc())?, &[edit], Err(fault))?;
+    }
+    Ok(())
 }
 
 #[test]
 fn too_few_pieces_inside(rt: HostRuntime) -> Result<(), Fail> {
-    let told = [
+    let told: &[(Draft, &[Edit], SlipFault)] = &[
         // One piece inside, then none.
         (
-            Example::Rings,
-            [Edit::Group(0, 0), Edit::Group(1, 0), Edit::Keep],
-            1,
+            RINGS,
+            &[Edit::Group(0, 0), Edit::Group(1, 0)],
+            SlipFault::Group(1),
         ),
         (
-            Example::Rings,
-            [Edit::Group(3, 0), Edit::Group(5, 0), Edit::Keep],
-            2,
+            RINGS,
+            &[Edit::Group(3, 0), Edit::Group(5, 0)],
+            SlipFault::Group(2),
         ),
         (
-            Example::Rings,
-            [Edit::Group(3, 0), Edit::Group(4, 0), Edit::Group(5, 0)],
-            2,
+            RINGS,
+            &[Edit::Group(3, 0), Edit::Group(4, 0), Edit::Group(5, 0)],
+            SlipFault::Group(2),
         ),
         // Group 3 around the other two: six inside, four inside, one inside.
+        (NEST, &[Edit::Group(6, 0)], SlipFault::Group(3)),
+        (NEST, &[Edit::Parent(2, 0)], SlipFault::Group(3)),
         (
-            Example::Nest,
-            [Edit::Group(6, 0), Edit::Keep, Edit::Keep],
-            3,
-        ),
-        (
-            Example::Nest,
-            [Edit::Parent(2, 0), Edit::Keep, Edit::Keep],
-            3,
-        ),
-        (
-            Example::Nest,
-            [Edit::Parent(1, 0), Edit::Parent(2, 0), Edit::Keep],
-            3,
+            NEST,
+            &[Edit::Parent(1, 0), Edit::Parent(2, 0)],
+            SlipFault::Group(3),
         ),
     ];
-    for (example, edits, group) in told {
-        fails(&rt, rt.alloc(), example, &edits, SlipFault::Group(group))?;
+    for &(draft, edits, fault) in told {
+        answers(&rt, draft.sheet(rt.alloc())?, edits, Err(fault))?;
     }
     Ok(())
 }
 
 #[test]
 fn a_group_left_by_three_pairs_of_mates(rt: HostRuntime) -> Result<(), Fail> {
-    fails(
+    answers(
         &rt,
-        rt.alloc(),
-        Example::Thrice,
+        THRICE.sheet(rt.alloc())?,
         &[],
-        SlipFault::Crossing(1),
+        Err(SlipFault::Crossing(1)),
     )?;
-    fails(&rt, rt.alloc(), Example::Late, &[], SlipFault::Crossing(2))
+    answers(
+        &rt,
+        LATE.sheet(rt.alloc())?,
+        &[],
+        Err(SlipFault::Crossing(2)),
+    )
 }

@@ -29,7 +29,10 @@ fn a_mate_has_to_be_another_that_names_back(rt: HostRuntime) -> Result<(), Fail>
         (Edit::Mark(0, 2), SlipFault::Piece(0)),
         (Edit::Mark(1, 3), SlipFault::Piece(1)),
     ];
-    fails_by(&rt, rt.alloc(), Example::Four, &told)
+    for (edit, fault) in told {
+        answers(&rt, FOUR.sheet(rt.alloc())?, &[edit], Err(fault))?;
+    }
+    Ok(())
 }
 
 #[test]
@@ -47,7 +50,10 @@ fn a_struck_piece_has_to_be_blank(rt: HostRuntime) -> Result<(), Fail> {
         (Edit::Mark(3, 1), SlipFault::Piece(3)),
         (Edit::Mate(0, 2), SlipFault::Piece(0)),
     ];
-    fails_by(&rt, rt.alloc(), Example::Struck, &told)
+    for (edit, fault) in told {
+        answers(&rt, STRUCK.sheet(rt.alloc())?, &[edit], Err(fault))?;
+    }
+    Ok(())
 }
 
 #[test]
@@ -58,14 +64,24 @@ fn a_barred_mate_is_told(rt: HostRuntime) -> Result<(), Fail> {
         Edit::Mate(2, 1),
         Edit::Mate(3, 0),
     ];
-    fails(&rt, rt.alloc(), Example::Four, &first, SlipFault::Piece(0))?;
+    answers(
+        &rt,
+        FOUR.sheet(rt.alloc())?,
+        &first,
+        Err(SlipFault::Piece(0)),
+    )?;
     let later = [
         Edit::Mate(2, 4),
         Edit::Mate(4, 2),
         Edit::Mate(3, 5),
         Edit::Mate(5, 3),
     ];
-    fails(&rt, rt.alloc(), Example::Rings, &later, SlipFault::Piece(2))
+    answers(
+        &rt,
+        RINGS.sheet(rt.alloc())?,
+        &later,
+        Err(SlipFault::Piece(2)),
+    )
 }
 
 #[test]
@@ -83,5 +99,8 @@ fn prices_and_groups_have_limits(rt: HostRuntime) -> Result<(), Fail> {
         (Edit::Group(0, 1), SlipFault::Piece(0)),
         (Edit::Group(3, 65535), SlipFault::Piece(3)),
     ];
-    fails_by(&rt, rt.alloc(), Example::Four, &told)
+    for (edit, fault) in told {
+        answers(&rt, FOUR.sheet(rt.alloc())?, &[edit], Err(fault))?;
+    }
+    Ok(())
 }

@@ -7,120 +7,47 @@ use std::test::Fail;
 
 #[test]
 fn a_margin_below_0_and_one_of_mates_above_0(rt: HostRuntime) -> Result<(), Fail> {
-    let told = [
+    let told: &[(Draft, &[Edit], SlipFault)] = &[
         // 0 and 1 are left with -1.
-        (
-            Example::Four,
-            Edit::Price(1, 2),
-            Edit::Keep,
-            SlipFault::Prices(0, 1),
-        ),
+        (FOUR, &[Edit::Price(1, 2)], SlipFault::Prices(0, 1)),
         // Mates are left with 1, and then with -1.
-        (
-            Example::Four,
-            Edit::Price(0, 0),
-            Edit::Keep,
-            SlipFault::Prices(0, 2),
-        ),
-        (
-            Example::Four,
-            Edit::Price(1, 0),
-            Edit::Keep,
-            SlipFault::Prices(1, 3),
-        ),
-        (
-            Example::Four,
-            Edit::Price(2, 6),
-            Edit::Keep,
-            SlipFault::Prices(0, 2),
-        ),
-        (
-            Example::Four,
-            Edit::Price(3, 6),
-            Edit::Keep,
-            SlipFault::Prices(1, 3),
-        ),
-        (
-            Example::Four,
-            Edit::Price(2, 8),
-            Edit::Keep,
-            SlipFault::Prices(0, 2),
-        ),
-        (
-            Example::Four,
-            Edit::Price(3, 8),
-            Edit::Keep,
-            SlipFault::Prices(1, 3),
-        ),
+        (FOUR, &[Edit::Price(0, 0)], SlipFault::Prices(0, 2)),
+        (FOUR, &[Edit::Price(1, 0)], SlipFault::Prices(1, 3)),
+        (FOUR, &[Edit::Price(2, 6)], SlipFault::Prices(0, 2)),
+        (FOUR, &[Edit::Price(3, 6)], SlipFault::Prices(1, 3)),
+        (FOUR, &[Edit::Price(2, 8)], SlipFault::Prices(0, 2)),
+        (FOUR, &[Edit::Price(3, 8)], SlipFault::Prices(1, 3)),
         // Both pairs of mates are left with 2.
-        (
-            Example::Rising,
-            Edit::Keep,
-            Edit::Keep,
-            SlipFault::Prices(0, 3),
-        ),
+        (RISING, &[], SlipFault::Prices(0, 3)),
         // A group around one of the mates 2 and 3.
+        (RINGS, &[Edit::Worth(1, 17)], SlipFault::Prices(2, 3)),
+        (RINGS, &[Edit::Worth(2, 19)], SlipFault::Prices(2, 3)),
         (
-            Example::Rings,
-            Edit::Worth(1, 17),
-            Edit::Keep,
-            SlipFault::Prices(2, 3),
-        ),
-        (
-            Example::Rings,
-            Edit::Worth(2, 19),
-            Edit::Keep,
-            SlipFault::Prices(2, 3),
-        ),
-        (
-            Example::Rings,
-            Edit::Worth(1, MOST_PRICE),
-            Edit::Keep,
+            RINGS,
+            &[Edit::Worth(1, MOST_PRICE)],
             SlipFault::Prices(2, 3),
         ),
         // Group 1 is around 0 and not 6, group 2 around 3 and not 2, group 3 around all but 7.
-        (
-            Example::Nest,
-            Edit::Worth(1, 3),
-            Edit::Keep,
-            SlipFault::Prices(0, 6),
-        ),
-        (
-            Example::Nest,
-            Edit::Worth(1, 1),
-            Edit::Keep,
-            SlipFault::Prices(2, 3),
-        ),
-        (
-            Example::Nest,
-            Edit::Worth(2, 5),
-            Edit::Keep,
-            SlipFault::Prices(2, 3),
-        ),
-        (
-            Example::Nest,
-            Edit::Worth(3, 9),
-            Edit::Keep,
-            SlipFault::Prices(0, 7),
-        ),
-        (
-            Example::Nest,
-            Edit::Worth(3, 7),
-            Edit::Keep,
-            SlipFault::Prices(6, 7),
-        ),
+        (NEST, &[Edit::Worth(1, 3)], SlipFault::Prices(0, 6)),
+        (NEST, &[Edit::Worth(1, 1)], SlipFault::Prices(2, 3)),
+        (NEST, &[Edit::Worth(2, 5)], SlipFault::Prices(2, 3)),
+        (NEST, &[Edit::Worth(3, 9)], SlipFault::Prices(0, 7)),
+        (NEST, &[Edit::Worth(3, 7)], SlipFault::Prices(6, 7)),
     ];
-    all_fail(&rt, rt.alloc(), &told)
+    for &(draft, edits, fault) in told {
+        answers(&rt, draft.sheet(rt.alloc())?, edits, Err(fault))?;
+    }
+    Ok(())
 }
 
 #[test]
 fn other_prices_that_pass(rt: HostRuntime) -> Result<(), Fail> {
     let low = MOST_PRICE - 20;
-    let passing = [
+    let passing: &[(Draft, &[Edit])] = &[
         // The margin of 2 and 3 is 0 too.
         (
-            Example::Four,
-            [
+            FOUR,
+            &[
                 Edit::Price(0, -2),
                 Edit::Price(1, -2),
                 Edit::Price(2, 10),
@@ -128,19 +55,11 @@ fn other_prices_that_pass(rt: HostRuntime) -> Result<(), Fail> {
             ],
         ),
         // Pairs with a struck piece have no margin.
-        (
-            Example::Struck,
-            [
-                Edit::Price(0, 100),
-                Edit::Price(1, -98),
-                Edit::Keep,
-                Edit::Keep,
-            ],
-        ),
+        (STRUCK, &[Edit::Price(0, 100), Edit::Price(1, -98)]),
         // Groups at the greatest price.
         (
-            Example::Rings,
-            [
+            RINGS,
+            &[
                 Edit::Price(2, -low),
                 Edit::Price(3, -low),
                 Edit::Worth(1, MOST_PRICE),
@@ -148,17 +67,12 @@ fn other_prices_that_pass(rt: HostRuntime) -> Result<(), Fail> {
             ],
         ),
         (
-            Example::Couple,
-            [
-                Edit::Price(0, -MOST_PRICE),
-                Edit::Price(1, MOST_PRICE),
-                Edit::Keep,
-                Edit::Keep,
-            ],
+            COUPLE,
+            &[Edit::Price(0, -MOST_PRICE), Edit::Price(1, MOST_PRICE)],
         ),
     ];
-    for (example, edits) in passing {
-        passes(&rt, rt.alloc(), example, &edits)?;
+    for &(draft, edits) in passing {
+        answers(&rt, draft.sheet(rt.alloc())?, edits, Ok(()))?;
     }
     // The margin of 2 and 3 is -1, those of the mates are 0.
     let last = [
@@ -167,54 +81,36 @@ fn other_prices_that_pass(rt: HostRuntime) -> Result<(), Fail> {
         Edit::Price(2, 10),
         Edit::Price(3, 11),
     ];
-    fails(
+    answers(
         &rt,
-        rt.alloc(),
-        Example::Four,
+        FOUR.sheet(rt.alloc())?,
         &last,
-        SlipFault::Prices(2, 3),
+        Err(SlipFault::Prices(2, 3)),
     )
 }
 
 #[test]
 fn the_total_is_what_the_mates_cost(rt: HostRuntime) -> Result<(), Fail> {
     let told = [
-        (
-            Example::Couple,
-            Edit::Total(1),
-            Edit::Keep,
-            SlipFault::Total,
-        ),
-        (Example::Four, Edit::Total(7), Edit::Keep, SlipFault::Total),
-        (Example::Four, Edit::Total(9), Edit::Keep, SlipFault::Total),
-        (Example::Four, Edit::Total(0), Edit::Keep, SlipFault::Total),
-        (Example::Four, Edit::Total(16), Edit::Keep, SlipFault::Total),
-        (
-            Example::Four,
-            Edit::Total(4_294_967_295),
-            Edit::Keep,
-            SlipFault::Total,
-        ),
-        (
-            Example::Struck,
-            Edit::Total(0),
-            Edit::Keep,
-            SlipFault::Total,
-        ),
-        (
-            Example::Struck,
-            Edit::Total(2),
-            Edit::Keep,
-            SlipFault::Total,
-        ),
-        (
-            Example::Rings,
-            Edit::Total(25),
-            Edit::Keep,
-            SlipFault::Total,
-        ),
-        (Example::Nest, Edit::Total(6), Edit::Keep, SlipFault::Total),
-        (Example::Nest, Edit::Total(8), Edit::Keep, SlipFault::Total),
+        (COUPLE, 1),
+        (FOUR, 7),
+        (FOUR, 9),
+        (FOUR, 0),
+        (FOUR, 16),
+        (FOUR, 4_294_967_295),
+        (STRUCK, 0),
+        (STRUCK, 2),
+        (RINGS, 25),
+        (NEST, 6),
+        (NEST, 8),
     ];
-    all_fail(&rt, rt.alloc(), &told)
+    for (draft, total) in told {
+        answers(
+            &rt,
+            draft.sheet(rt.alloc())?,
+            &[Edit::Total(total)],
+            Err(SlipFault::Total),
+        )?;
+    }
+    Ok(())
 }

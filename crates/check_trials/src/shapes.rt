@@ -15,6 +15,15 @@ fn other_lengths_and_kinds_are_told(rt: HostRuntime) -> Result<(), Fail> {
         Edit::Kind(3),
         Edit::Kind(255),
     ];
-    fails_alike(&rt, rt.alloc(), Example::Four, &edits, SlipFault::Shape)?;
-    fails_alike(&rt, rt.alloc(), Example::Star, &edits, SlipFault::Shape)
+    for draft in [FOUR, STAR] {
+        for edit in edits {
+            answers(
+                &rt,
+                draft.sheet(rt.alloc())?,
+                &[edit],
+                Err(SlipFault::Shape),
+            )?;
+        }
+    }
+    Ok(())
 }

@@ -6,6 +6,7 @@ use crate::fault::*;
 use crate::gap_deal::*;
 use crate::judge::*;
 use crate::priced_deal::*;
+use crate::shapes::*;
 use crate::tally::*;
 use crate::wild_deal::*;
 use list_book::list::ListBook;
@@ -16,29 +17,21 @@ use std::alloc::{AllocError, Global};
 // How many slips are compared.
 const SLIPS: u32 = 8000;
 
-// Damages a deal so many times.
-fn damage_often(dice: &mut Dice, deal: &mut Deal, times: u32) -> Result<(), AllocError> {
-    for _ in 0..times {
-        damage(dice, deal)?;
-    }
-    Ok(())
-}
-
-// A slip of one of eight families.
+// A slip of one of eight families, damaged so many times.
+// The families come in turn by number: names for them would stand only here.
 fn deal_one(heap: Global, dice: &mut Dice, family: u32) -> Result<Deal, AllocError> {
-    let mut deal = match family {
-        0..=3 => deal_priced(heap, dice, true)?,
-        4 => deal_priced(heap, dice, false)?,
-        5 | 6 => deal_gap(heap, dice)?,
-        _ => deal_wild(heap, dice)?,
+    let (mut deal, times) = match family {
+        0 => (deal_priced(heap, dice, draw_lawful)?, 0),
+        1 | 2 => (deal_priced(heap, dice, draw_lawful)?, 1),
+        3 => (deal_priced(heap, dice, draw_lawful)?, dice.roll(2) + 2),
+        4 => (deal_priced(heap, dice, draw_unlawful)?, dice.roll(8) / 7),
+        5 => (deal_gap(heap, dice)?, 0),
+        6 => (deal_gap(heap, dice)?, 1),
+        _ => (deal_wild(heap, dice)?, 0),
     };
-    let times = match family {
-        1 | 2 | 6 => 1,
-        3 => dice.roll(2) + 2,
-        4 => dice.roll(8) / 7,
-        _ => 0,
-    };
-    damage_often(dice, &mut deal, times)?;
+    for _ in 0..times {
+        damage(dice, &mut deal)?;
+    }
     Ok(deal)
 }
 
@@ -46,21 +39,22 @@ fn deal_one(heap: Global, dice: &mut Dice, family: u32) -> Result<Deal, AllocErr
 fn library_answer(heap: Global, deal: &Deal) -> Result<Option<SlipFault>, TrialFault> {
     let mut book = ListBook::new(heap);
     book.load(deal.count, lines(heap, &deal.pairs)?)?;
-    Ok(match check(&book, &deal.marks, &deal.slip) {
-        Ok(_) => None,
-        Err(fault) => Some(fault),
+    Ok(check(&book, &deal.marks, &deal.slip).err())
+}
+
+// Makes a slip of a family, and has it judged twice.
+fn run_trial(heap: Global, dice: &mut Dice, family: u32) -> Result<Trial, TrialFault> {
+    let deal = deal_one(heap, dice, family)?;
+    Ok(Trial {
+        kind: deal.slip.kind,
+        answer: library_answer(heap, &deal)?,
+        judged: judge(heap, &deal)?,
     })
 }
 
-pub(crate) fn compare_all(heap: Global) -> Result<Tally, TrialFault> {
+pub(crate) fn compare_all(heap: Global) -> Result<Vec<Trial>, TrialFault> {
     let mut dice = Dice::new(2026);
-    let mut tally = Tally::new();
-    for k in 0..SLIPS {
-        let deal = deal_one(heap, &mut dice, k % 8)?;
-        let answer = library_answer(heap, &deal)?;
-        let judged = judge(heap, &deal)?;
-        tally.add_answer(deal.slip.kind, answer);
-        tally.add_comparison(answer == judged);
-    }
-    Ok(tally)
+    (0..SLIPS)
+        .map(|k| run_trial(heap, &mut dice, k % 8))
+        .try_collect(heap)
 }

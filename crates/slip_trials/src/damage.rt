@@ -1,4 +1,5 @@
 // One field of a deal is changed.
+// The dice and a slip stay two parameters: a struct of both would be made for each call alone.
 use crate::deal::*;
 use crate::dice::Dice;
 use crate::look::*;
@@ -15,8 +16,8 @@ fn other_price(dice: &mut Dice, price: i64) -> i64 {
         5 => 1_000_000_000_000_001,
         6 => -1_000_000_000_000_000,
         7 => -1_000_000_000_000_001,
-        8 => 9_223_372_036_854_775_807,
-        9 => -9_223_372_036_854_775_808,
+        8 => i64::MAX,
+        9 => i64::MIN,
         10 => 0,
         _ => price.wrapping_neg(),
     }
@@ -48,39 +49,35 @@ fn damage_total(dice: &mut Dice, slip: &mut Slip) {
 
 fn damage_mate(dice: &mut Dice, slip: &mut Slip, u: usize) {
     let other = as_mate(dice.place(slip.pieces.len().saturating_add(1)));
-    let none = dice.roll(4) == 0;
-    if let Some(record) = slip.pieces.get_mut(u) {
-        record.mate = if none { 65535 } else { other };
-    }
+    let mate = if dice.roll(4) == 0 { 65535 } else { other };
+    change_at(&mut slip.pieces, u, |record| record.mate = mate);
 }
 
+// This and the next differ by a field and by what is drawn: one function for both would be handed that, and how the field is read and written.
 fn damage_price(dice: &mut Dice, slip: &mut Slip, u: usize) {
     let price = other_price(dice, piece_record(slip, u).price);
-    if let Some(record) = slip.pieces.get_mut(u) {
-        record.price = price;
-    }
+    change_at(&mut slip.pieces, u, |record| record.price = price);
 }
 
 fn damage_group(dice: &mut Dice, slip: &mut Slip, u: usize) {
     let group = other_number(dice, piece_record(slip, u).group);
-    if let Some(record) = slip.pieces.get_mut(u) {
-        record.group = group;
-    }
+    change_at(&mut slip.pieces, u, |record| record.group = group);
 }
 
 // Changes the price or the parent of a group record.
 fn damage_record(dice: &mut Dice, slip: &mut Slip, place: usize) {
     let priced = dice.roll(2) == 0;
-    if let Some(record) = slip.groups.get_mut(place) {
+    change_at(&mut slip.groups, place, |record| {
         if priced {
             record.price = other_price(dice, record.price);
         } else {
             record.parent = other_number(dice, record.parent);
         }
-    }
+    });
 }
 
 // One record of a table more or less.
+// A match on what is drawn: each step stands once, beside how often it comes.
 fn damage_lengths(dice: &mut Dice, slip: &mut Slip) -> Result<(), AllocError> {
     match dice.roll(4) {
         0 => slip.pieces.push(blank_piece())?,
@@ -101,17 +98,17 @@ fn damage_mark(dice: &mut Dice, marks: &mut Vec<u8>) {
     let drawn = mark(dice);
     if dice.roll(4) == 0 {
         let _ = marks.pop();
-    } else if let Some(mark) = marks.get_mut(place) {
-        *mark = drawn;
+    } else {
+        change_at(marks, place, |mark| *mark = drawn);
     }
 }
 
 // Another cost of a pair: a little more or less, none, the greatest, or any small one.
-fn damage_cost(dice: &mut Dice, pairs: &mut Vec<Pair>) {
+fn damage_cost(dice: &mut Dice, pairs: &mut [Pair]) {
     let place = dice.place(pairs.len());
     let kind = dice.roll(6);
     let drawn = dice.roll(30);
-    if let Some(pair) = pairs.get_mut(place) {
+    change_at(pairs, place, |pair| {
         pair.cost = match (kind, pair.cost) {
             (0, Some(cost)) => Some(cost.saturating_add(1).min(1_000_000)),
             (1 | 2, Some(cost)) => Some(cost.saturating_sub(1)),
@@ -119,13 +116,7 @@ fn damage_cost(dice: &mut Dice, pairs: &mut Vec<Pair>) {
             (4, _) => Some(1_000_000),
             _ => Some(drawn),
         };
-    }
-}
-
-fn set_mate(slip: &mut Slip, u: usize, v: usize) {
-    if let Some(record) = slip.pieces.get_mut(u) {
-        record.mate = as_mate(v);
-    }
+    });
 }
 
 // Two pieces become mates, and so do their mates.
@@ -133,15 +124,12 @@ fn damage_pairing(dice: &mut Dice, slip: &mut Slip, u: usize) {
     let v = dice.place(slip.pieces.len());
     let left = usize::from(piece_record(slip, u).mate);
     let right = usize::from(piece_record(slip, v).mate);
-    set_mate(slip, u, v);
-    set_mate(slip, v, u);
-    set_mate(slip, left, right);
-    set_mate(slip, right, left);
-}
-
-fn raise_price(slip: &mut Slip, u: usize, by: i64) {
-    if let Some(record) = slip.pieces.get_mut(u) {
-        record.price = record.price.wrapping_add(by);
+    for (piece, mate) in [(u, v), (v, u), (left, right), (right, left)] {
+        change_at(
+            &mut slip.pieces,
+            piece,
+            |record| record.mate = as_mate(mate),
+        );
     }
 }
 
@@ -149,18 +137,24 @@ fn raise_price(slip: &mut Slip, u: usize, by: i64) {
 fn damage_share(dice: &mut Dice, slip: &mut Slip, u: usize) {
     let by = i64::from(dice.roll(3)) + 1;
     let mate = usize::from(piece_record(slip, u).mate);
-    raise_price(slip, u, by);
-    raise_price(slip, mate, -by);
+    for (piece, raise) in [(u, by), (mate, -by)] {
+        change_at(
+            &mut slip.pieces,
+            piece,
+            |record| record.price = record.price.wrapping_add(raise),
+        );
+    }
 }
 
 // Changes one thing of a deal, drawn by lot.
+// A match on what is drawn: each step stands once, beside how often it comes.
 pub(crate) fn damage(dice: &mut Dice, deal: &mut Deal) -> Result<(), AllocError> {
     let what = dice.roll(16);
     let u = dice.place(deal.slip.pieces.len());
     let near = dice.place(usize::from(deal.slip.count));
     let far = dice.place(160).min(126);
     match what {
-        0 => deal.slip.kind = (dice.roll(5) & 0xff) as u8,
+        0 => deal.slip.kind = dice.roll(5) as u8,
         1 => damage_total(dice, &mut deal.slip),
         2 => deal.slip.count = other_number(dice, deal.slip.count),
         3 => damage_mate(dice, &mut deal.slip, u),

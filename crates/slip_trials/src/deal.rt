@@ -13,6 +13,7 @@ pub struct Pair {
 
 #[derive(Drop)]
 pub struct Deal {
+    // How many pieces the book counts; the tables below may be damaged to other lengths.
     pub count: usize,
     // Every pair, by lower, then higher piece.
     pub pairs: Vec<Pair>,
@@ -36,6 +37,7 @@ pub(crate) fn blank_group() -> GroupRecord {
 }
 
 // A slip of this kind that says nothing.
+// The record of a slip has its kind as a number.
 pub(crate) fn blank_slip(heap: Global, kind: u8, count: usize) -> Result<Slip, AllocError> {
     let pieces = vec![in heap; blank_piece(); count]?;
     let groups = vec![in heap; blank_group(); 127]?;
@@ -48,45 +50,49 @@ pub(crate) fn blank_slip(heap: Global, kind: u8, count: usize) -> Result<Slip, A
     })
 }
 
+// Changes the item at a place, where there is one.
+pub(crate) fn change_at<T, F: FnOnce(&mut T)>(items: &mut [T], place: usize, change: F)
+    requires { F.IsAlwaysCallable change }
+{
+    if let Some(item) = items.get_mut(place) {
+        change(item);
+    }
+}
+
 // The lines of a list book: the pairs that are allowed.
 pub(crate) fn lines(heap: Global, pairs: &[Pair]) -> Result<Vec<Line>, AllocError> {
-    let mut lines = Vec::new(heap);
-    for pair in pairs {
-        if let Some(cost) = pair.cost {
-            lines.push(Line {
-                lower: pair.lower,
-                higher: pair.higher,
+    pairs
+        .iter()
+        .filter_map(|pair| {
+            pair.cost
+                .map(|cost| Line::new(pair.lower, pair.higher, cost))
+        })
+        .collect(heap)
+}
+
+// Every pair of so many pieces, each with the cost that it is given.
+pub(crate) fn all_pairs<F: FnMut(usize, usize) -> Option<u32>>(
+    heap: Global,
+    count: usize,
+    mut cost_of: F,
+) -> Result<Vec<Pair>, AllocError>
+    requires { F.IsAlwaysCallable cost_of }
+{
+    let mut pairs = Vec::new(heap);
+    for lower in 0..count {
+        for higher in lower + 1..count {
+            let cost = cost_of(lower, higher);
+            pairs.push(Pair {
+                lower,
+                higher,
                 cost,
             })?;
         }
     }
-    Ok(lines)
-}
-
-// The higher pieces that a lower one is paired with, each with no cost.
-fn add_row(pairs: &mut Vec<Pair>, lower: usize, count: usize) -> Result<(), AllocError> {
-    for higher in 0..count {
-        if lower < higher {
-            pairs.push(Pair {
-                lower,
-                higher,
-                cost: None,
-            })?;
-        }
-    }
-    Ok(())
-}
-
-// Every pair of so many pieces, with no cost.
-pub(crate) fn barred_pairs(heap: Global, count: usize) -> Result<Vec<Pair>, AllocError> {
-    let mut pairs = Vec::new(heap);
-    for lower in 0..count {
-        add_row(&mut pairs, lower, count)?;
-    }
     Ok(pairs)
 }
 
-// A piece's number as a slip writes it.
+// A piece's number as a slip writes it; 65535, which is no piece, where it has more than 16 bits.
 pub(crate) fn as_mate(piece: usize) -> u16 {
-    (piece & 0xffff) as u16
+    u16::try_from(piece).unwrap_or(65535)
 }

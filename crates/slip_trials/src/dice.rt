@@ -15,27 +15,25 @@ impl Dice {
     fn next(&mut self) -> u32 {
         let scaled = self.state.wrapping_mul(6_364_136_223_846_793_005);
         self.state = scaled.wrapping_add(1_442_695_040_888_963_407);
-        ((self.state >> 33) & 0x7fff_ffff) as u32
+        (self.state >> 33) as u32
     }
 
     // A number below `sides`, or 0.
     pub fn roll(&mut self, sides: u32) -> u32
         ensures { result ≤ sides - 1 }
     {
-        let drawn = self.next();
-        if sides == 0 { 0 } else { drawn % sides }
+        self.next().checked_rem(sides).unwrap_or(0)
     }
 
     // A place below `count`, or 0.
     pub fn place(&mut self, count: usize) -> usize
         ensures { result ≤ count - 1 }
     {
-        let drawn = self.next() as usize;
-        if count == 0 { 0 } else { drawn % count }
+        self.roll(u32::try_from(count).unwrap_or(u32::MAX)) as usize
     }
 
     // A number of 16 bits below `sides`, or 0.
     pub fn short(&mut self, sides: u32) -> u16 {
-        (self.roll(sides) & 0xffff) as u16
+        u16::try_from(self.roll(sides)).unwrap_or(u16::MAX)
     }
 }

@@ -23,39 +23,23 @@ fn draw_part(dice: &mut Dice) -> u16 {
 fn set_parts(dice: &mut Dice, slip: &mut Slip, live: &[usize]) {
     for piece in live {
         let part = draw_part(dice);
-        if let Some(record) = slip.pieces.get_mut(*piece) {
-            record.group = part;
-        }
+        change_at(&mut slip.pieces, *piece, |record| record.group = part);
     }
 }
 
-// Cuts the first of the live pieces, and makes each other one a part of its own.
+// Leaves the first of the live pieces cut, and makes each other one a part of its own.
 fn set_single(slip: &mut Slip, live: &[usize], cut: usize) {
-    for (k, piece) in live.iter().enumerate() {
-        if let Some(record) = slip.pieces.get_mut(*piece) {
-            record.group = if k < cut {
-                0
-            } else {
-                as_mate(*piece).saturating_add(1)
-            };
-        }
+    for piece in live.iter().skip(cut) {
+        let part = as_mate(*piece).saturating_add(1);
+        change_at(&mut slip.pieces, *piece, |record| record.group = part);
     }
 }
 
-// Whether a pair joins pieces of two parts; a struck piece has none.
-fn joins_parts(slip: &Slip, u: usize, v: usize) -> bool {
-    let first = piece_record(slip, u).group;
-    let second = piece_record(slip, v).group;
-    first != 0 && second != 0 && first != second
-}
-
-// Small costs for the pairs that do not join two parts.
-fn fit_costs(dice: &mut Dice, slip: &Slip, pairs: &mut Vec<Pair>) {
-    for pair in pairs.iter_mut() {
-        let cost = dice.roll(30);
-        let allowed = dice.roll(3) != 0 && !joins_parts(slip, pair.lower, pair.higher);
-        pair.cost = if allowed { Some(cost) } else { None };
-    }
+// A small cost now and then, where two pieces are not of two parts.
+fn draw_cost(dice: &mut Dice, slip: &Slip, u: usize, v: usize) -> Option<u32> {
+    let cost = dice.roll(30);
+    let allowed = dice.roll(3) != 0 && !are_apart(slip, u, v);
+    allowed.then_some(cost)
 }
 
 pub(crate) fn deal_gap(heap: Global, dice: &mut Dice) -> Result<Deal, AllocError> {
@@ -69,8 +53,7 @@ pub(crate) fn deal_gap(heap: Global, dice: &mut Dice) -> Result<Deal, AllocError
         let cut = dice.place(live.len() / 2 + 1);
         set_single(&mut slip, &live, cut);
     }
-    let mut pairs = barred_pairs(heap, count)?;
-    fit_costs(dice, &slip, &mut pairs);
+    let pairs = all_pairs(heap, count, |u, v| draw_cost(dice, &slip, u, v))?;
     Ok(Deal {
         count,
         pairs,

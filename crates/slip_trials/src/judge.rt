@@ -1,4 +1,4 @@
-// The independent check: every test is made to its end, all that fails is written down, and the soonest of it is the answer.
+// The independent check: every test is made to its end, and the soonest of all that fails is the answer.
 use crate::deal::*;
 use crate::judge_gap::*;
 use crate::judge_groups::*;
@@ -8,48 +8,43 @@ use crate::rooms::*;
 use slips::fault::SlipFault;
 use std::alloc::{AllocError, Global};
 
-// What a test finds wrong: the test's place in the order, and the numbers that it names.
-#[derive(Clone, Copy)]
-pub struct Finding {
-    pub test: u8,
-    pub first: usize,
-    pub second: usize,
+// What a test finds wrong, with the pieces or groups that it names, in the order of the tests.
+#[derive(Clone, Copy, PartialEq, Eq, PartialOrd, Ord)]
+pub enum Finding {
+    Shape,
+    Piece(usize),
+    Count,
+    Unused(usize),
+    Nest(usize),
+    Odd(usize),
+    Prices(usize, usize),
+    Crossing(usize),
+    Total,
+    Gapped,
 }
 
-pub(crate) fn found_by(test: u8, first: usize, second: usize) -> Finding {
-    Finding {
-        test,
-        first,
-        second,
+// A finding as the library's fault.
+impl From<Finding> for SlipFault {
+    fn from(found: Finding) -> SlipFault {
+        match found {
+            Finding::Shape => SlipFault::Shape,
+            Finding::Piece(piece) => SlipFault::Piece(piece),
+            Finding::Count => SlipFault::Group(0),
+            Finding::Unused(group) | Finding::Nest(group) | Finding::Odd(group) => {
+                SlipFault::Group(group)
+            }
+            Finding::Prices(lower, higher) => SlipFault::Prices(lower, higher),
+            Finding::Crossing(group) => SlipFault::Crossing(group),
+            Finding::Total => SlipFault::Total,
+            Finding::Gapped => SlipFault::Gap,
+        }
     }
 }
 
-// The order of the tests.
-pub const SHAPE: u8 = 0;
-
-pub const PIECE: u8 = 1;
-
-pub const COUNT: u8 = 2;
-
-pub const UNUSED: u8 = 3;
-
-pub const NEST: u8 = 4;
-
-pub const ODD: u8 = 5;
-
-pub const PRICES: u8 = 6;
-
-pub const CROSSING: u8 = 7;
-
-pub const TOTAL: u8 = 8;
-
-pub const GAPPED: u8 = 9;
-
 fn is_shaped(deal: &Deal) -> bool {
-    let kind = deal.slip.kind;
     deal.slip.pieces.len() == deal.count
         && deal.slip.groups.len() == 127
-        && (kind == 1 || kind == 2)
+        && matches!(deal.slip.kind, 1 | 2)
 }
 
 // Whether the mate of a piece is another live piece that names it back, of an allowed pair.
@@ -64,79 +59,44 @@ fn piece_stands(deal: &Deal, u: usize) -> bool {
     if !is_live(deal, u) {
         return record == blank_piece();
     }
-    let price = i128::from(record.price);
-    let priced = -1_000_000_000_000_000 <= price && price <= 1_000_000_000_000_000;
-    is_mated(deal, u) && priced && record.group <= deal.slip.count
+    is_mated(deal, u)
+        && (-1_000_000_000_000_000..=1_000_000_000_000_000).contains(&record.price)
+        && record.group <= deal.slip.count
 }
 
-fn find_pieces(findings: &mut Vec<Finding>, deal: &Deal) -> Result<(), AllocError> {
-    for u in 0..deal.count {
-        if !piece_stands(deal, u) {
-            findings.push(found_by(PIECE, u, 0))?;
-        }
-    }
-    Ok(())
+fn find_pieces(deal: &Deal) -> Option<Finding> {
+    (0..deal.count)
+        .filter(|u| !piece_stands(deal, *u))
+        .map(Finding::Piece)
+        .min()
 }
 
-// Whether a finding comes before another: by the test, then by the numbers that it names.
-fn is_sooner(one: Finding, other: Finding) -> bool {
-    if one.test != other.test {
-        return one.test < other.test;
-    }
-    one.first < other.first || one.first == other.first && one.second < other.second
-}
-
-fn soonest(findings: &[Finding]) -> Option<Finding> {
-    let mut best = None;
-    for next in findings {
-        best = match best {
-            Some(held) => Some(if is_sooner(*next, held) { *next } else { held }),
-            None => Some(*next),
-        };
-    }
-    best
-}
-
-// A finding as the library's fault.
-fn as_fault(found: Finding) -> SlipFault {
-    match found.test {
-        SHAPE => SlipFault::Shape,
-        PIECE => SlipFault::Piece(found.first),
-        COUNT | UNUSED | NEST | ODD => SlipFault::Group(found.first),
-        PRICES => SlipFault::Prices(found.first, found.second),
-        CROSSING => SlipFault::Crossing(found.first),
-        TOTAL => SlipFault::Total,
-        _ => SlipFault::Gap,
-    }
-}
-
-// All that the tests of a priced slip find.
-fn find_priced(heap: Global, findings: &mut Vec<Finding>, deal: &Deal) -> Result<(), AllocError> {
+// The soonest of all that the tests of a priced slip find.
+fn find_priced(heap: Global, deal: &Deal) -> Result<Option<Finding>, AllocError> {
+    // Deal and rooms stay two parameters: more than half of the tests need no rooms.
     let rooms = rooms(heap, &deal.slip)?;
-    find_total(findings, deal)?;
-    find_crossings(findings, deal, &rooms)?;
-    find_prices(findings, deal, &rooms)?;
-    find_odd(findings, deal, &rooms)?;
-    find_nests(findings, deal)?;
-    find_unused(findings, deal)?;
-    find_count(findings, deal)?;
-    find_pieces(findings, deal)
+    let found = [
+        find_total(deal),
+        find_crossings(deal, &rooms),
+        find_prices(deal, &rooms),
+        find_odd(deal, &rooms),
+        find_nests(deal),
+        find_unused(deal),
+        find_count(deal),
+        find_pieces(deal),
+    ];
+    Ok(found.into_iter().flatten().min())
 }
 
 // The fault of a slip, `None` where it passes.
 pub(crate) fn judge(heap: Global, deal: &Deal) -> Result<Option<SlipFault>, AllocError> {
-    let mut findings = Vec::new(heap);
-    if deal.slip.kind == 1 {
-        find_priced(heap, &mut findings, deal)?;
-    }
-    if deal.slip.kind == 2 && !is_gap(deal) {
-        findings.push(found_by(GAPPED, 0, 0))?;
-    }
-    if !is_shaped(deal) {
-        findings.push(found_by(SHAPE, 0, 0))?;
-    }
-    Ok(match soonest(&findings) {
-        Some(found) => Some(as_fault(found)),
-        None => None,
-    })
+    let shape = (!is_shaped(deal)).then_some(Finding::Shape);
+    // The record of a slip has its kind as a number, and any number may stand there.
+    let content = match deal.slip.kind {
+        1 => find_priced(heap, deal)?,
+        2 => (!is_gap(deal)).then_some(Finding::Gapped),
+        _ => None,
+    };
+    let soonest = [shape, content].into_iter().flatten().min();
+    Ok(soonest.map(SlipFault::from))
 }

@@ -1,35 +1,54 @@
 // What a deal says of a piece or of two.
 use crate::deal::*;
+use crate::marks::*;
 use slips::slip::*;
 
-// A piece is live where its mark is 0 or 1.
+// Whether a number is that of a live piece.
 pub(crate) fn is_live(deal: &Deal, u: usize) -> bool {
-    match deal.marks.get(u) {
-        Some(mark) => u < deal.count && *mark < 2,
-        None => false,
-    }
+    u < deal.count && deal.marks.get(u).is_some_and(|mark| is_live_mark(*mark))
+}
+
+pub(crate) fn both_live(deal: &Deal, pair: &Pair) -> bool {
+    is_live(deal, pair.lower) && is_live(deal, pair.higher)
 }
 
 // The record of a piece; one that fits no piece where there is none.
 pub(crate) fn piece_record(slip: &Slip, u: usize) -> PieceRecord {
-    match slip.pieces.get(u) {
-        Some(record) => *record,
-        None => blank_piece(),
-    }
+    slip.pieces.get(u).copied().unwrap_or(blank_piece())
 }
 
 // The cost of two pieces, sought through all pairs.
 pub(crate) fn cost_between(pairs: &[Pair], u: usize, v: usize) -> Option<u32> {
-    let mut cost = None;
-    for pair in pairs {
-        if pair.lower == u.min(v) && pair.higher == u.max(v) {
-            cost = pair.cost;
-        }
-    }
-    cost
+    pairs
+        .iter()
+        .find(|pair| pair.lower == u.min(v) && pair.higher == u.max(v))
+        .and_then(|pair| pair.cost)
 }
 
 // Whether two pieces are mates by their records.
+// Two pieces stay two parameters, here and below: a `Pair` has a cost, and where costs are made there is none yet.
 pub(crate) fn are_mates(slip: &Slip, u: usize, v: usize) -> bool {
     usize::from(piece_record(slip, u).mate) == v && usize::from(piece_record(slip, v).mate) == u
+}
+
+// Whether two pieces are of two parts; a piece that is cut is of none.
+pub(crate) fn are_apart(slip: &Slip, u: usize, v: usize) -> bool {
+    let first = piece_record(slip, u).group;
+    let second = piece_record(slip, v).group;
+    first != 0 && second != 0 && first != second
+}
+
+// Whether a pair is of live mates.
+pub(crate) fn is_pairing(deal: &Deal, pair: &Pair) -> bool {
+    both_live(deal, pair) && are_mates(&deal.slip, pair.lower, pair.higher)
+}
+
+// The sum of the costs of live mates.
+pub(crate) fn sum_of_costs(deal: &Deal) -> u64 {
+    deal.pairs
+        .iter()
+        .filter(|pair| is_pairing(deal, pair))
+        .filter_map(|pair| pair.cost)
+        .map(u64::from)
+        .fold(0, u64::saturating_add)
 }

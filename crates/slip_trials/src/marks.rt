@@ -3,6 +3,7 @@ use crate::dice::Dice;
 use std::alloc::{AllocError, Global};
 
 // A mark: of sixteen, eleven are 0, two are 1, two are 2 and one is 3.
+// The check takes marks as numbers of 8 bits, and any number may stand there.
 pub(crate) fn mark(dice: &mut Dice) -> u8 {
     match dice.roll(16) {
         0..=10 => 0,
@@ -13,47 +14,39 @@ pub(crate) fn mark(dice: &mut Dice) -> u8 {
 }
 
 pub(crate) fn marks(heap: Global, dice: &mut Dice, count: usize) -> Result<Vec<u8>, AllocError> {
-    let mut marks = Vec::new(heap);
-    for _ in 0..count {
-        marks.push(mark(dice))?;
-    }
-    Ok(marks)
+    (0..count).map(|_| mark(dice)).collect(heap)
 }
 
-// The pieces whose mark is 0 or 1, rising.
+// A piece is live where its mark is 0 or 1.
+pub(crate) fn is_live_mark(mark: u8) -> bool {
+    mark < 2
+}
+
+// The live pieces, rising.
 pub(crate) fn live_pieces(heap: Global, marks: &[u8]) -> Result<Vec<usize>, AllocError> {
-    let mut live = Vec::new(heap);
-    for (piece, mark) in marks.iter().enumerate() {
-        if *mark < 2 {
-            live.push(piece)?;
-        }
-    }
-    Ok(live)
+    marks
+        .iter()
+        .enumerate()
+        .filter(|(_, mark)| is_live_mark(**mark))
+        .map(|(piece, _)| piece)
+        .collect(heap)
 }
 
 // Strikes the lowest of an odd number of live pieces.
-pub(crate) fn make_even(marks: &mut Vec<u8>, live: &[usize]) {
-    if live.len() % 2 == 1 {
-        if let Some(first) = live.get(0) {
-            if let Some(mark) = marks.get_mut(*first) {
-                *mark = 2;
-            }
-        }
-    }
-}
-
-// Puts the piece at one place where that at another was, and the other way round.
-fn exchange(order: &mut Vec<usize>, i: usize, j: usize) {
-    if i < order.len() && j < order.len() {
-        order.swap(i, j);
+pub(crate) fn make_even(marks: &mut [u8]) {
+    let live = marks.iter().filter(|mark| is_live_mark(**mark)).count();
+    if live % 2 == 1
+        && let Some(mark) = marks.iter_mut().find(|mark| is_live_mark(**mark))
+    {
+        *mark = 2;
     }
 }
 
 // Brings pieces into an order by lot.
-pub(crate) fn shuffle(dice: &mut Dice, order: &mut Vec<usize>) {
-    let count = order.len();
-    for i in 0..count {
-        let j = dice.place(count);
-        exchange(order, i, j);
+pub(crate) fn shuffle(dice: &mut Dice, order: &mut [usize]) {
+    // A swap is of two places, so the loop counts places.
+    for i in 0..order.len() {
+        let j = dice.place(order.len());
+        order.swap(i, j);
     }
 }

@@ -33,42 +33,26 @@ fn draw_price(dice: &mut Dice, live: usize) -> i64 {
 
 // Sets the group of each live piece by its place in the order.
 fn set_inner(slip: &mut Slip, order: &[usize], inner: &[u16; 8]) {
-    for (u, g) in order.iter().zip(inner.iter()) {
-        if let Some(record) = slip.pieces.get_mut(*u) {
-            record.group = *g;
-        }
+    for (u, g) in order.iter().zip(inner) {
+        change_at(&mut slip.pieces, *u, |record| record.group = *g);
     }
 }
 
 // Sets the first group records: prices by lot, parents as given, one for each of these numbers.
 fn set_groups(dice: &mut Dice, slip: &mut Slip, parents: &[u16]) {
-    for (k, parent) in parents.iter().enumerate() {
-        let price = draw_group_price(dice, parents.len());
-        if let Some(record) = slip.groups.get_mut(k) {
-            record.price = price;
-            record.parent = *parent;
-        }
+    for (record, parent) in slip.groups.iter_mut().zip(parents) {
+        *record = GroupRecord {
+            price: draw_group_price(dice, parents.len()),
+            parent: *parent,
+        };
     }
 }
 
 // The parents of a chain of groups, each the parent of the one before it.
 fn chain(heap: Global, count: u16) -> Result<Vec<u16>, AllocError> {
-    let mut parents = Vec::new(heap);
-    for g in 1..=count {
-        parents.push(if g < count { g.saturating_add(1) } else { 0 })?;
-    }
-    Ok(parents)
-}
-
-// The parents of a shape's groups.
-fn shape_parents(heap: Global, shape: &Shape) -> Result<Vec<u16>, AllocError> {
-    let mut parents = Vec::new(heap);
-    for (k, parent) in shape.parents.iter().enumerate() {
-        if k < usize::from(shape.count) {
-            parents.push(*parent)?;
-        }
-    }
-    Ok(parents)
+    (1..=count)
+        .map(|g| if g < count { g + 1 } else { 0 })
+        .collect(heap)
 }
 
 // The pieces of group 2, moved to the outermost group.
@@ -100,10 +84,10 @@ fn lay_groups(
     shape: &Shape,
 ) -> Result<(), AllocError> {
     set_inner(slip, order, &shape.inner);
-    slip.count = shape.count;
-    let mut parents = shape_parents(heap, shape)?;
-    if dice.roll(6) == 0 && is_chain(shape) {
-        slip.count = draw_depth(dice, shape.count);
+    let mut parents: Vec<u16> = shape.parents.into_iter().flatten().collect(heap)?;
+    slip.count = u16::try_from(parents.len()).unwrap_or(u16::MAX);
+    if dice.roll(6) == 0 && is_chain(&parents) {
+        slip.count = draw_depth(dice, slip.count);
         raise_second(slip, slip.count);
         parents = chain(heap, slip.count)?;
     }
@@ -111,124 +95,77 @@ fn lay_groups(
     Ok(())
 }
 
-fn set_mate(slip: &mut Slip, u: usize, v: usize, price: i64) {
-    if let Some(record) = slip.pieces.get_mut(u) {
-        record.mate = as_mate(v);
-        record.price = price;
+// Makes two pieces mates, with prices that just meet a small cost drawn by lot.
+fn join(dice: &mut Dice, slip: &mut Slip, live: usize, u: usize, v: usize, apart: i128) {
+    let cost = i128::from(dice.roll(40));
+    let first = draw_price(dice, live);
+    let left = 2 * cost - i128::from(first);
+    let second = i64::try_from(left.wrapping_sub(apart)).unwrap_or(0);
+    for (piece, mate, price) in [(u, v, first), (v, u, second)] {
+        change_at(&mut slip.pieces, piece, |record| {
+            record.mate = as_mate(mate);
+            record.price = price;
+        });
     }
 }
 
-// Makes two pieces mates, with prices that just meet a small cost drawn by lot.
-fn join(dice: &mut Dice, slip: &mut Slip, live: usize, u: usize, v: usize, apart: i128) {
-    let cost = i64::from(dice.roll(40));
-    let first = draw_price(dice, live);
-    let left = i128::from(cost)
-        .wrapping_mul(2)
-        .wrapping_sub(i128::from(first));
-    let second = match i64::try_from(left.wrapping_sub(apart)) {
-        Ok(price) => price,
-        Err(_) => 0,
-    };
-    set_mate(slip, u, v, first);
-    set_mate(slip, v, u, second);
-}
-
 // Makes the first two pieces of an order mates, the next two, and so on.
-fn join_all(dice: &mut Dice, slip: &mut Slip, rooms: &[Vec<usize>], order: &[usize]) {
-    let mut waiting = None;
-    for piece in order {
-        waiting = match waiting {
-            None => Some(*piece),
-            Some(first) => {
-                let apart = between(slip, rooms, first, *piece);
-                join(dice, slip, order.len(), first, *piece, apart);
-                None
-            }
-        };
+fn join_all(dice: &mut Dice, slip: &mut Slip, rooms: &[Room], order: &[usize]) {
+    for pair in order.chunks_exact(2) {
+        if let [u, v] = *pair {
+            join(dice, slip, order.len(), u, v, between(rooms, u, v));
+        }
     }
 }
 
 // The least cost at which two pieces have a margin of 0 or 1; 0 where any cost has more.
-fn least_cost(slip: &Slip, rooms: &[Vec<usize>], u: usize, v: usize) -> i128 {
-    let first = i128::from(piece_record(slip, u).price);
-    let second = i128::from(piece_record(slip, v).price);
-    let need = first
-        .wrapping_add(second)
-        .wrapping_add(between(slip, rooms, u, v));
-    if need <= 0 {
-        0
-    } else {
-        need.wrapping_add(1) / 2
-    }
+fn least_cost(slip: &Slip, rooms: &[Room], u: usize, v: usize) -> u128 {
+    prices_of(slip, rooms, u, v)
+        .max(0)
+        .unsigned_abs()
+        .div_ceil(2)
 }
 
 // The cost of a pair: of mates the least; of others now and then none, else the least or little more, if that is a cost.
-fn fit_cost(dice: &mut Dice, slip: &Slip, rooms: &[Vec<usize>], u: usize, v: usize) -> Option<u32> {
-    let slack = i128::from(dice.roll(3));
+fn fit_cost(dice: &mut Dice, slip: &Slip, rooms: &[Room], u: usize, v: usize) -> Option<u32> {
+    let slack = u128::from(dice.roll(3));
     let none = dice.roll(3) == 0;
     let least = least_cost(slip, rooms, u, v);
-    let mates = are_mates(slip, u, v);
-    if none && !mates {
-        return None;
-    }
-    let cost = if mates {
+    let cost = if are_mates(slip, u, v) {
         least
-    } else {
-        least.wrapping_add(slack)
-    };
-    if cost > 1_000_000 {
+    } else if none {
         return None;
-    }
-    match u32::try_from(cost) {
-        Ok(cost) => Some(cost),
-        Err(_) => None,
-    }
+    } else {
+        least.saturating_add(slack)
+    };
+    u32::try_from(cost).ok().filter(|cost| *cost <= 1_000_000)
 }
 
-fn fit_costs(dice: &mut Dice, slip: &Slip, rooms: &[Vec<usize>], pairs: &mut Vec<Pair>) {
-    for pair in pairs.iter_mut() {
-        let cost = fit_cost(dice, slip, rooms, pair.lower, pair.higher);
-        pair.cost = cost;
-    }
-}
-
-// The sum of the mates' costs.
-fn mates_total(slip: &Slip, pairs: &[Pair]) -> u32 {
-    let mut total: u32 = 0;
-    for pair in pairs {
-        if let Some(cost) = pair.cost {
-            if are_mates(slip, pair.lower, pair.higher) {
-                total = total.saturating_add(cost);
-            }
-        }
-    }
-    total
-}
-
-// A priced slip around groups that are lawful or not.
-pub(crate) fn deal_priced(heap: Global, dice: &mut Dice, lawful: bool) -> Result<Deal, AllocError> {
+// A priced slip around groups that are drawn for so many live pieces.
+pub(crate) fn deal_priced<F: FnOnce(&mut Dice, usize) -> Shape>(
+    heap: Global,
+    dice: &mut Dice,
+    draw_shape: F,
+) -> Result<Deal, AllocError>
+    requires { F.IsAlwaysCallable draw_shape }
+{
     let count = dice.place(9).max(dice.place(9));
     let mut marks = marks(heap, dice, count)?;
-    let live = live_pieces(heap, &marks)?;
-    make_even(&mut marks, &live);
+    make_even(&mut marks);
     let mut order = live_pieces(heap, &marks)?;
     shuffle(dice, &mut order);
-    let shape = if lawful {
-        draw_lawful(dice, order.len())
-    } else {
-        draw_unlawful(dice, order.len())
-    };
+    let shape = draw_shape(dice, order.len());
     let mut slip = blank_slip(heap, 1, count)?;
     lay_groups(heap, dice, &mut slip, &order, &shape)?;
     let rooms = rooms(heap, &slip)?;
     join_all(dice, &mut slip, &rooms, &order);
-    let mut pairs = barred_pairs(heap, count)?;
-    fit_costs(dice, &slip, &rooms, &mut pairs);
-    slip.total = mates_total(&slip, &pairs);
-    Ok(Deal {
+    let pairs = all_pairs(heap, count, |u, v| fit_cost(dice, &slip, &rooms, u, v))?;
+    let mut deal = Deal {
         count,
         pairs,
         marks,
         slip,
-    })
+    };
+    deal.slip.total = u32::try_from(sum_of_costs(&deal)).unwrap_or(u32::MAX);
+    Ok(deal)
 }

@@ -5,45 +5,47 @@ use crate::dice::Dice;
 pub struct Shape {
     // The innermost group of each piece.
     pub inner: [u16; 8],
-    pub parents: [u16; 3],
-    pub count: u16,
+    // The parent of each group, of at most three.
+    pub parents: [Option<u16>; 3],
 }
 
-fn laid(inner: [u16; 8], parents: [u16; 3], count: u16) -> Shape {
+fn laid(inner: [u16; 8], parents: &[u16]) -> Shape {
+    let parent = |k: usize| parents.get(k).copied();
     Shape {
         inner,
-        parents,
-        count,
+        parents: [parent(0), parent(1), parent(2)],
     }
 }
 
 // Groups that each hold an odd number of pieces, and that one pair of mates leaves.
+// The number is only drawn: a name for each shape would say no more than the shape.
 fn lawful_shape(number: u32) -> Shape {
     match number {
-        1 => laid([1, 1, 1, 0, 0, 0, 0, 0], [0, 0, 0], 1),
-        2 => laid([1, 1, 1, 0, 2, 2, 0, 0], [2, 0, 0], 2),
-        3 => laid([1, 1, 1, 2, 2, 0, 0, 0], [2, 0, 0], 2),
-        4 => laid([1, 1, 1, 2, 2, 2, 0, 0], [0, 0, 0], 2),
-        5 => laid([1, 1, 1, 1, 1, 0, 0, 0], [0, 0, 0], 1),
-        6 => laid([1, 1, 1, 0, 2, 2, 2, 0], [0, 0, 0], 2),
-        7 => laid([1, 1, 1, 0, 2, 2, 3, 3], [2, 3, 0], 3),
-        _ => laid([0, 0, 0, 0, 0, 0, 0, 0], [0, 0, 0], 0),
+        1 => laid([1, 1, 1, 0, 0, 0, 0, 0], &[0]),
+        2 => laid([1, 1, 1, 0, 2, 2, 0, 0], &[2, 0]),
+        3 => laid([1, 1, 1, 2, 2, 0, 0, 0], &[2, 0]),
+        4 => laid([1, 1, 1, 2, 2, 2, 0, 0], &[0, 0]),
+        5 => laid([1, 1, 1, 1, 1, 0, 0, 0], &[0]),
+        6 => laid([1, 1, 1, 0, 2, 2, 2, 0], &[0, 0]),
+        7 => laid([1, 1, 1, 0, 2, 2, 3, 3], &[2, 3, 0]),
+        _ => laid([0, 0, 0, 0, 0, 0, 0, 0], &[]),
     }
 }
 
 // Groups with too few or an even number of pieces, and groups that three pairs of mates leave.
+// The number is only drawn: a name for each shape would say no more than the shape.
 fn unlawful_shape(number: u32) -> Shape {
     match number {
-        0 => laid([1, 1, 0, 0, 0, 0, 0, 0], [0, 0, 0], 1),
-        1 => laid([1, 0, 0, 0, 0, 0, 0, 0], [0, 0, 0], 1),
-        2 => laid([1, 1, 1, 0, 0, 0, 0, 0], [0, 0, 0], 2),
-        3 => laid([1, 1, 1, 1, 0, 0, 0, 0], [0, 0, 0], 1),
-        4 => laid([1, 0, 1, 0, 1, 0, 0, 0], [0, 0, 0], 1),
-        5 => laid([1, 2, 1, 2, 1, 0, 0, 0], [2, 0, 0], 2),
-        6 => laid([1, 1, 1, 2, 2, 2, 0, 0], [2, 0, 0], 2),
-        7 => laid([1, 2, 1, 2, 1, 2, 0, 0], [0, 0, 0], 2),
-        8 => laid([1, 1, 1, 0, 2, 0, 2, 0], [2, 0, 0], 2),
-        _ => laid([1, 1, 1, 2, 2, 0, 2, 0], [0, 0, 0], 2),
+        0 => laid([1, 1, 0, 0, 0, 0, 0, 0], &[0]),
+        1 => laid([1, 0, 0, 0, 0, 0, 0, 0], &[0]),
+        2 => laid([1, 1, 1, 0, 0, 0, 0, 0], &[0, 0]),
+        3 => laid([1, 1, 1, 1, 0, 0, 0, 0], &[0]),
+        4 => laid([1, 0, 1, 0, 1, 0, 0, 0], &[0]),
+        5 => laid([1, 2, 1, 2, 1, 0, 0, 0], &[2, 0]),
+        6 => laid([1, 1, 1, 2, 2, 2, 0, 0], &[2, 0]),
+        7 => laid([1, 2, 1, 2, 1, 2, 0, 0], &[0, 0]),
+        8 => laid([1, 1, 1, 0, 2, 0, 2, 0], &[2, 0]),
+        _ => laid([1, 1, 1, 2, 2, 0, 2, 0], &[0, 0]),
     }
 }
 
@@ -69,12 +71,7 @@ pub(crate) fn draw_unlawful(dice: &mut Dice, live: usize) -> Shape {
     }
 }
 
-// Whether each group of a shape is the parent of the one before it.
-pub(crate) fn is_chain(shape: &Shape) -> bool {
-    match shape.count {
-        0 => false,
-        1 => true,
-        2 => shape.parents == [2, 0, 0],
-        _ => true,
-    }
+// Whether these are the parents of groups of which each is the parent of the one before it.
+pub(crate) fn is_chain(parents: &[u16]) -> bool {
+    matches!(parents, [0] | [2, 0] | [2, 3, 0])
 }

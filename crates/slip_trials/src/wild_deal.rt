@@ -5,6 +5,7 @@ use crate::marks::*;
 use slips::slip::*;
 use std::alloc::{AllocError, Global};
 
+// The record of a slip has its kind as a number, and any number may stand there.
 fn wild_kind(dice: &mut Dice) -> u8 {
     match dice.roll(8) {
         0 => 0,
@@ -36,36 +37,17 @@ fn wild_piece(dice: &mut Dice, count: usize) -> PieceRecord {
     }
 }
 
-fn wild_pieces(
-    heap: Global,
-    dice: &mut Dice,
-    length: usize,
-    count: usize,
-) -> Result<Vec<PieceRecord>, AllocError> {
-    let mut pieces = Vec::new(heap);
-    for _ in 0..length {
-        pieces.push(wild_piece(dice, count))?;
-    }
-    Ok(pieces)
-}
-
-// The first of the group records.
-fn set_wild_groups(dice: &mut Dice, groups: &mut Vec<GroupRecord>, count: usize) {
-    for k in 0..count {
-        let price = i64::from(dice.roll(5));
-        let parent = dice.short(5);
-        if let Some(record) = groups.get_mut(k) {
-            *record = GroupRecord { price, parent };
-        }
+fn wild_group(dice: &mut Dice) -> GroupRecord {
+    GroupRecord {
+        price: i64::from(dice.roll(5)),
+        parent: dice.short(5),
     }
 }
 
-fn wild_costs(dice: &mut Dice, pairs: &mut Vec<Pair>) {
-    for pair in pairs.iter_mut() {
-        let cost = dice.roll(6);
-        let allowed = dice.roll(5) != 0;
-        pair.cost = if allowed { Some(cost) } else { None };
-    }
+fn wild_cost(dice: &mut Dice) -> Option<u32> {
+    let cost = dice.roll(6);
+    let allowed = dice.roll(5) != 0;
+    allowed.then_some(cost)
 }
 
 fn wild_slip(heap: Global, dice: &mut Dice, count: usize) -> Result<Slip, AllocError> {
@@ -73,11 +55,13 @@ fn wild_slip(heap: Global, dice: &mut Dice, count: usize) -> Result<Slip, AllocE
     let total = dice.roll(8);
     let groups_count = dice.short(4);
     let length = wild_length(dice, count);
-    let pieces = wild_pieces(heap, dice, length, count)?;
+    let pieces = (0..length).map(|_| wild_piece(dice, count)).collect(heap)?;
     let groups_length = wild_length(dice, 127);
     let mut groups = vec![in heap; blank_group(); groups_length]?;
     let filled = dice.place(4);
-    set_wild_groups(dice, &mut groups, filled);
+    for record in groups.iter_mut().take(filled) {
+        *record = wild_group(dice);
+    }
     Ok(Slip {
         kind,
         total,
@@ -91,8 +75,7 @@ pub(crate) fn deal_wild(heap: Global, dice: &mut Dice) -> Result<Deal, AllocErro
     let count = dice.place(9);
     let length = wild_length(dice, count);
     let marks = marks(heap, dice, length)?;
-    let mut pairs = barred_pairs(heap, count)?;
-    wild_costs(dice, &mut pairs);
+    let pairs = all_pairs(heap, count, |_, _| wild_cost(dice))?;
     let slip = wild_slip(heap, dice, count)?;
     Ok(Deal {
         count,

@@ -2,41 +2,18 @@
 use crate::told::*;
 use books::book::CostBook;
 use books::fault::BookFault;
-use books::refusal::Refusal;
 use list_book::line::Line;
 use list_book::list::ListBook;
 use std::alloc::{AllocError, Global};
 use std::test::Fail;
 
-fn line(lower: usize, higher: usize, cost: u32) -> Line {
-    Line {
-        lower,
-        higher,
-        cost,
-    }
-}
-
 // `count` lines for 256 pieces, by lower, then higher piece; the cost of a line is its number.
 pub(crate) fn many_lines(heap: Global, count: u32) -> Result<Vec<Line>, AllocError> {
-    let mut lines = Vec::new(heap);
-    let mut lower = 0;
-    let mut higher = 1;
-    for k in 0..count {
-        lines.push(line(lower, higher, k + 1))?;
-        if higher < 255 {
-            higher += 1;
-        } else if lower < 254 {
-            lower += 1;
-            higher = lower + 1;
-        }
-    }
-    Ok(lines)
-}
-
-// How a new list refuses a count and lines.
-fn loaded(heap: Global, count: usize, lines: &[Line]) -> Result<Option<Refusal>, AllocError> {
-    let mut book = ListBook::new(heap);
-    Ok(refused(book.load(count, Vec::from_slice(heap, lines)?)))
+    (0..256)
+        .flat_map(|lower| (lower + 1..256).map(move |higher| (lower, higher)))
+        .zip(1..=count)
+        .map(|((lower, higher), cost)| Line::new(lower, higher, cost))
+        .collect(heap)
 }
 
 #[test]
@@ -49,7 +26,12 @@ fn a_new_list_has_no_piece(rt: HostRuntime) {
 #[test]
 fn a_pair_has_the_cost_of_its_line(rt: HostRuntime) -> Result<(), Fail> {
     let mut book = ListBook::new(rt.alloc());
-    let lines = [line(0, 1, 1), line(0, 2, 4), line(1, 3, 4), line(2, 3, 10)];
+    let lines = [
+        Line::new(0, 1, 1),
+        Line::new(0, 2, 4),
+        Line::new(1, 3, 4),
+        Line::new(2, 3, 10),
+    ];
     assert_eq!(rt;
         refused(book.load(4, Vec::from_slice(rt.alloc(), &lines)?)),
         None
@@ -76,8 +58,22 @@ fn a_pair_has_the_cost_of_its_line(rt: HostRuntime) -> Result<(), Fail> {
 
 #[test]
 fn pieces_and_lines_at_their_limits(rt: HostRuntime) -> Result<(), Fail> {
-    assert_eq!(rt; loaded(rt.alloc(), 256, &[line(254, 255, 0)])?, None);
-    assert_eq!(rt; loaded(rt.alloc(), 257, &[line(254, 255, 0)])?, plain(1));
+    assert_eq!(rt;
+        loaded(
+            rt.alloc(),
+            &[Line::new(254, 255, 0)],
+            |lines| ListBook::new(rt.alloc()).load(256, lines)
+        )?,
+        None
+    );
+    assert_eq!(rt;
+        loaded(
+            rt.alloc(),
+            &[Line::new(254, 255, 0)],
+            |lines| ListBook::new(rt.alloc()).load(257, lines)
+        )?,
+        plain(1)
+    );
     let mut book = ListBook::new(rt.alloc());
     assert_eq!(rt;
         refused(book.load(256, many_lines(rt.alloc(), 4096)?)),
@@ -100,21 +96,28 @@ fn pieces_and_lines_at_their_limits(rt: HostRuntime) -> Result<(), Fail> {
 #[test]
 fn a_line_is_refused_with_its_number(rt: HostRuntime) -> Result<(), Fail> {
     let told = [
-        (line(0, 1, 0), line(2, 2, 0), naming(3, 2)),
-        (line(2, 1, 0), line(2, 3, 0), naming(3, 1)),
-        (line(0, 1, 0), line(0, 4, 0), naming(3, 2)),
-        (line(0, 1, 0), line(0, 1, 0), naming(4, 2)),
-        (line(0, 2, 0), line(0, 1, 0), naming(4, 2)),
-        (line(1, 2, 0), line(0, 3, 0), naming(4, 2)),
-        (line(0, 1, 0), line(0, 2, 1_000_000), None),
-        (line(0, 1, 0), line(0, 2, 1_000_001), naming(5, 2)),
+        (Line::new(0, 1, 0), Line::new(2, 2, 0), naming(3, 2)),
+        (Line::new(2, 1, 0), Line::new(2, 3, 0), naming(3, 1)),
+        (Line::new(0, 1, 0), Line::new(0, 4, 0), naming(3, 2)),
+        (Line::new(0, 1, 0), Line::new(0, 1, 0), naming(4, 2)),
+        (Line::new(0, 2, 0), Line::new(0, 1, 0), naming(4, 2)),
+        (Line::new(1, 2, 0), Line::new(0, 3, 0), naming(4, 2)),
+        (Line::new(0, 1, 0), Line::new(0, 2, 1_000_000), None),
+        (Line::new(0, 1, 0), Line::new(0, 2, 1_000_001), naming(5, 2)),
         // Of two faults: on one line the lowest number, of two lines the lowest.
-        (line(0, 1, 0), line(1, 0, 1_000_001), naming(3, 2)),
-        (line(0, 2, 0), line(0, 1, 1_000_001), naming(4, 2)),
-        (line(0, 1, 1_000_001), line(1, 0, 0), naming(5, 1)),
+        (Line::new(0, 1, 0), Line::new(1, 0, 1_000_001), naming(3, 2)),
+        (Line::new(0, 2, 0), Line::new(0, 1, 1_000_001), naming(4, 2)),
+        (Line::new(0, 1, 1_000_001), Line::new(1, 0, 0), naming(5, 1)),
     ];
     for (first, second, refusal) in told {
-        assert_eq!(rt; loaded(rt.alloc(), 4, &[first, second])?, refusal);
+        assert_eq!(rt;
+            loaded(
+                rt.alloc(),
+                &[first, second],
+                |lines| ListBook::new(rt.alloc()).load(4, lines)
+            )?,
+            refusal
+        );
     }
     Ok(())
 }
@@ -122,9 +125,26 @@ fn a_line_is_refused_with_its_number(rt: HostRuntime) -> Result<(), Fail> {
 #[test]
 fn sizes_are_told_before_lines(rt: HostRuntime) -> Result<(), Fail> {
     let heap = rt.alloc();
-    assert_eq!(rt; loaded(heap, 0, &[])?, None);
-    assert_eq!(rt; loaded(heap, 0, &[line(0, 1, 0)])?, naming(3, 1));
-    assert_eq!(rt; loaded(heap, 257, &[line(1, 0, 0)])?, plain(1));
+    assert_eq!(rt;
+        loaded(heap, &[], |lines| ListBook::new(heap).load(0, lines))?,
+        None
+    );
+    assert_eq!(rt;
+        loaded(
+            heap,
+            &[Line::new(0, 1, 0)],
+            |lines| ListBook::new(heap).load(0, lines)
+        )?,
+        naming(3, 1)
+    );
+    assert_eq!(rt;
+        loaded(
+            heap,
+            &[Line::new(1, 0, 0)],
+            |lines| ListBook::new(heap).load(257, lines)
+        )?,
+        plain(1)
+    );
     let mut book = ListBook::new(heap);
     assert_eq!(rt; refused(book.load(257, many_lines(heap, 4097)?)), plain(1));
     assert_eq!(rt; refused(book.load(1, many_lines(heap, 4097)?)), plain(2));
@@ -136,11 +156,11 @@ fn a_refused_list_leaves_the_book(rt: HostRuntime) -> Result<(), Fail> {
     let heap = rt.alloc();
     let mut book = ListBook::new(heap);
     assert_eq!(rt;
-        refused(book.load(3, Vec::from_slice(heap, &[line(0, 1, 7)])?)),
+        refused(book.load(3, Vec::from_slice(heap, &[Line::new(0, 1, 7)])?)),
         None
     );
     assert_eq!(rt;
-        refused(book.load(2, Vec::from_slice(heap, &[line(0, 2, 8)])?)),
+        refused(book.load(2, Vec::from_slice(heap, &[Line::new(0, 2, 8)])?)),
         naming(3, 1)
     );
     assert_eq!(rt; book.count(), 3);

@@ -2,7 +2,6 @@
 use crate::told::*;
 use books::book::CostBook;
 use books::fault::BookFault;
-use books::refusal::Refusal;
 use std::alloc::{AllocError, Global};
 use std::test::Fail;
 use tariff_book::piece::Piece;
@@ -18,15 +17,6 @@ fn terms(least_break: u16, greatest_spread: u16, rate: u16, move_charge: u32) ->
     }
 }
 
-fn piece(starts: u16, ends: u16, origin: u16, destination: u16) -> Piece {
-    Piece {
-        starts,
-        ends,
-        origin,
-        destination,
-    }
-}
-
 // What two pieces cost under terms; a refusal to load them is an error.
 fn priced(heap: Global, terms: Terms, one: Piece, other: Piece) -> Result<Option<u32>, BookFault> {
     let mut book = TariffBook::new(heap);
@@ -34,21 +24,15 @@ fn priced(heap: Global, terms: Terms, one: Piece, other: Piece) -> Result<Option
     book.cost(0, 1)
 }
 
-// How a new tariff refuses terms and records.
-fn loaded(heap: Global, terms: Terms, pieces: &[Piece]) -> Result<Option<Refusal>, AllocError> {
-    let mut book = TariffBook::new(heap);
-    Ok(refused(book.load(terms, Vec::from_slice(heap, pieces)?)))
-}
-
 #[test]
 fn worked_examples(rt: HostRuntime) {
     let agreed = terms(30, 720, 10, 500);
-    let early = piece(360, 600, 1, 2);
+    let early = Piece::new(360, 600, 1, 2);
     let answers = [
-        (piece(840, 1080, 2, 1), Ok(Some(2400))),
-        (piece(841, 1081, 2, 1), Ok(None)),
-        (piece(630, 900, 3, 1), Ok(Some(800))),
-        (piece(629, 900, 3, 1), Ok(None)),
+        (Piece::new(840, 1080, 2, 1), Ok(Some(2400))),
+        (Piece::new(841, 1081, 2, 1), Ok(None)),
+        (Piece::new(630, 900, 3, 1), Ok(Some(800))),
+        (Piece::new(629, 900, 3, 1), Ok(None)),
     ];
     for (late, answer) in answers {
         assert_eq!(rt; priced(rt.alloc(), agreed, early, late), answer);
@@ -61,13 +45,17 @@ fn pieces_that_overlap_or_start_together_are_barred(rt: HostRuntime) {
     // The longest gap at the highest rate, with the dearest move, stays below the greatest cost.
     let dear = terms(0, 1440, 100, 100_000);
     let answers = [
-        (piece(0, 10, 1, 1), piece(10, 20, 1, 1), Ok(Some(0))),
-        (piece(0, 11, 1, 1), piece(10, 20, 1, 1), Ok(None)),
-        (piece(0, 30, 1, 1), piece(10, 20, 1, 1), Ok(None)),
-        (piece(5, 6, 1, 1), piece(5, 6, 1, 1), Ok(None)),
         (
-            piece(0, 1, 1, 1),
-            piece(1439, 1440, 2, 1),
+            Piece::new(0, 10, 1, 1),
+            Piece::new(10, 20, 1, 1),
+            Ok(Some(0)),
+        ),
+        (Piece::new(0, 11, 1, 1), Piece::new(10, 20, 1, 1), Ok(None)),
+        (Piece::new(0, 30, 1, 1), Piece::new(10, 20, 1, 1), Ok(None)),
+        (Piece::new(5, 6, 1, 1), Piece::new(5, 6, 1, 1), Ok(None)),
+        (
+            Piece::new(0, 1, 1, 1),
+            Piece::new(1439, 1440, 2, 1),
             Ok(Some(243_800)),
         ),
     ];
@@ -89,7 +77,14 @@ fn terms_at_their_limits(rt: HostRuntime) -> Result<(), Fail> {
         (terms(0, 1, 101, 100_001), naming(6, 3)),
     ];
     for (terms, refusal) in told {
-        assert_eq!(rt; loaded(rt.alloc(), terms, &[])?, refusal);
+        assert_eq!(rt;
+            loaded(
+                rt.alloc(),
+                &[],
+                |pieces| TariffBook::new(rt.alloc()).load(terms, pieces)
+            )?,
+            refusal
+        );
     }
     Ok(())
 }
@@ -97,20 +92,41 @@ fn terms_at_their_limits(rt: HostRuntime) -> Result<(), Fail> {
 #[test]
 fn records_at_their_limits(rt: HostRuntime) -> Result<(), Fail> {
     let told = [
-        (piece(0, 1, 0, 0), piece(2879, 2880, 65535, 65535), None),
-        (piece(0, 1, 0, 0), piece(2879, 2881, 0, 0), naming(7, 1)),
-        (piece(0, 1, 0, 0), piece(2880, 2881, 0, 0), naming(7, 1)),
-        (piece(7, 7, 0, 0), piece(8, 7, 0, 0), naming(7, 0)),
+        (
+            Piece::new(0, 1, 0, 0),
+            Piece::new(2879, 2880, 65535, 65535),
+            None,
+        ),
+        (
+            Piece::new(0, 1, 0, 0),
+            Piece::new(2879, 2881, 0, 0),
+            naming(7, 1),
+        ),
+        (
+            Piece::new(0, 1, 0, 0),
+            Piece::new(2880, 2881, 0, 0),
+            naming(7, 1),
+        ),
+        (Piece::new(7, 7, 0, 0), Piece::new(8, 7, 0, 0), naming(7, 0)),
     ];
+    let least = terms(0, 1, 0, 0);
     for (one, other, refusal) in told {
         assert_eq!(rt;
-            loaded(rt.alloc(), terms(0, 1, 0, 0), &[one, other])?,
+            loaded(
+                rt.alloc(),
+                &[one, other],
+                |pieces| TariffBook::new(rt.alloc()).load(least, pieces)
+            )?,
             refusal
         );
     }
     // A faulty term is told before a faulty record.
     assert_eq!(rt;
-        loaded(rt.alloc(), terms(0, 0, 0, 0), &[piece(7, 7, 0, 0)])?,
+        loaded(
+            rt.alloc(),
+            &[Piece::new(7, 7, 0, 0)],
+            |pieces| TariffBook::new(rt.alloc()).load(terms(0, 0, 0, 0), pieces)
+        )?,
         naming(6, 2)
     );
     Ok(())
@@ -122,12 +138,12 @@ fn pieces_at_their_limit(rt: HostRuntime) -> Result<(), Fail> {
     let mut book = TariffBook::new(heap);
     assert_eq!(rt; book.count(), 0);
     assert_eq!(rt; book.cost(0, 0), Err(BookFault::PieceOutside(0)));
-    let many = vec![in heap; piece(0, 1, 0, 0); 256]?;
+    let many = vec![in heap; Piece::new(0, 1, 0, 0); 256]?;
     assert_eq!(rt; refused(book.load(terms(0, 1, 0, 0), many)), None);
     assert_eq!(rt; book.count(), 256);
     assert_eq!(rt; book.cost(255, 256), Err(BookFault::PieceOutside(256)));
     // Too many pieces are told before a faulty term.
-    let more = vec![in heap; piece(1, 1, 0, 0); 257]?;
+    let more = vec![in heap; Piece::new(1, 1, 0, 0); 257]?;
     assert_eq!(rt; refused(book.load(terms(0, 0, 0, 0), more)), plain(1));
     assert_eq!(rt; book.count(), 256);
     Ok(())

@@ -1,7 +1,8 @@
 // What the tests expect, and every refusal with its number and added value.
 use books::fault::BookFault;
 use books::refusal;
-use books::refusal::Refusal;
+use books::refusal::{Refusal, Refuses};
+use std::alloc::{AllocError, Global};
 
 // A refusal that names nothing.
 pub(crate) fn plain(number: u8) -> Option<Refusal> {
@@ -15,10 +16,18 @@ pub(crate) fn naming(number: u8, named: usize) -> Option<Refusal> {
 
 // How an answer was refused; `None` where it was accepted.
 pub(crate) fn refused<T: Drop>(answer: Result<T, BookFault>) -> Option<Refusal> {
-    match answer {
-        Ok(_) => None,
-        Err(fault) => Some(fault.refusal()),
-    }
+    answer.err().map(|fault| fault.refusal())
+}
+
+// How these rows are refused by what loads them.
+pub(crate) fn loaded<T: Copy, F: FnOnce(Vec<T>) -> Result<(), BookFault>>(
+    heap: Global,
+    rows: &[T],
+    load: F,
+) -> Result<Option<Refusal>, AllocError>
+    requires { F.IsAlwaysCallable load }
+{
+    Ok(refused(load(Vec::from_slice(heap, rows)?)))
 }
 
 #[test]

@@ -13,26 +13,17 @@ fn show_lift(
     step: &str,
     answer: Result<bool, BookFault>,
 ) -> Result<(), WalkFault> {
-    match answer {
-        Ok(true) => println!(rt; "  {step}: it was held")?,
-        Ok(false) => println!(rt; "  {step}: it was not held")?,
-        Err(fault) => {
-            let told = Told(fault.refusal());
-            println!(rt; "  {step}: {told}")?;
-        }
-    }
-    Ok(())
+    let told = |held| if held {
+        "it was held"
+    } else {
+        "it was not held"
+    };
+    show(rt, &step, answer.map(told))
 }
 
 // Bars piece 0 with as many others, from piece 1 on; how many were accepted.
 fn bar_many<B: CostBook>(layer: &mut BarLayer<B>, others: usize) -> usize {
-    let mut accepted = 0;
-    for j in 0..others {
-        if layer.bar(0, j + 1).is_ok() {
-            accepted += 1;
-        }
-    }
-    accepted
+    (0..others).filter(|&j| layer.bar(0, j + 1).is_ok()).count()
 }
 
 fn fill(rt: &HostRuntime) -> Result<(), WalkFault> {

@@ -20,7 +20,7 @@ fn bars_on_top(rt: &HostRuntime) -> Result<(), WalkFault> {
     show_step(rt, "bar 0 with 1 below", low.bar(0, 1))?;
     let mut middle = SurchargeLayer::new(low);
     show_step(rt, "set the amount to 50", middle.set_amount(50))?;
-    show_step(rt, "mark 2", middle.mark(2))?;
+    show_step(rt, "mark 2", middle.set_mark(2, true))?;
     let mut top = BarLayer::new(rt.alloc(), middle)?;
     show_step(rt, "bar 2 with 3 on top", top.bar(2, 3))?;
     ask(rt, &top, 0, 1)?;
@@ -40,12 +40,12 @@ fn surcharge_on_top(rt: &HostRuntime) -> Result<(), WalkFault> {
     )?;
     let mut low = SurchargeLayer::new(book);
     show_step(rt, "set the amount below to 7", low.set_amount(7))?;
-    show_step(rt, "mark 0 below", low.mark(0))?;
+    show_step(rt, "mark 0 below", low.set_mark(0, true))?;
     let mut middle = BarLayer::new(rt.alloc(), low)?;
     show_step(rt, "bar 0 with 3", middle.bar(0, 3))?;
     let mut top = SurchargeLayer::new(middle);
     show_step(rt, "set the amount on top to 50", top.set_amount(50))?;
-    show_step(rt, "mark 1 on top", top.mark(1))?;
+    show_step(rt, "mark 1 on top", top.set_mark(1, true))?;
     ask(rt, &top, 0, 1)?;
     ask(rt, &top, 0, 2)?;
     ask(rt, &top, 0, 3)

@@ -2,14 +2,14 @@
 use crate::fault::*;
 use books::book::{CostBook, cost_of};
 use books::fault::BookFault;
-use books::refusal::{Named, Refusal};
+use books::refusal::*;
 use std::fmt;
 
-// A refusal with its number and what it names.
+// A refusal, as it is printed: its number and what it names.
 #[derive(Drop)]
 pub struct Told(pub Refusal);
 
-// What the number that is added to a refusal counts.
+// What the number that is added to a refusal counts; by the refusal's number, since a refusal is told by it.
 fn kind_named(number: u8) -> &'static str {
     match number {
         3 | 4 | 5 => "line",
@@ -34,20 +34,52 @@ impl fmt::Display for Told {
     }
 }
 
+// What two pieces cost, as it is printed.
+#[derive(Drop)]
+struct Price(Option<u32>);
+
+impl fmt::Display for Price {
+    fn fmt<W: fmt::Write>(&self, f: &mut fmt::Formatter<W>) -> fmt::Result {
+        match self.0 {
+            Some(cost) => write!(f, "{cost}"),
+            None => f.write_str("barred"),
+        }
+    }
+}
+
+// Prints a question or a step, and its answer or how it was refused.
+pub(crate) fn show<Q: fmt::Display, A: fmt::Display + Drop, F: Refuses + Drop>(
+    rt: &HostRuntime,
+    asked: &Q,
+    answer: Result<A, F>,
+) -> Result<(), WalkFault> {
+    match answer {
+        Ok(given) => println!(rt; "  {asked}: {given}")?,
+        Err(fault) => {
+            let told = Told(fault.refusal());
+            println!(rt; "  {asked}: {told}")?;
+        }
+    }
+    Ok(())
+}
+
 // Prints a step and whether it was accepted.
 pub(crate) fn show_step(
     rt: &HostRuntime,
     step: &str,
     answer: Result<(), BookFault>,
 ) -> Result<(), WalkFault> {
-    match answer {
-        Ok(_) => println!(rt; "  {step}: accepted")?,
-        Err(fault) => {
-            let told = Told(fault.refusal());
-            println!(rt; "  {step}: {told}")?;
-        }
+    show(rt, &step, answer.map(|_| "accepted"))
+}
+
+// Two pieces, of which a book is asked what they cost.
+#[derive(Clone, Copy)]
+struct Question(usize, usize);
+
+impl fmt::Display for Question {
+    fn fmt<W: fmt::Write>(&self, f: &mut fmt::Formatter<W>) -> fmt::Result {
+        write!(f, "{} with {}", self.0, self.1)
     }
-    Ok(())
 }
 
 // Asks a book for the cost of two pieces, and prints the answer.
@@ -57,13 +89,5 @@ pub(crate) fn ask<B: CostBook>(
     i: usize,
     j: usize,
 ) -> Result<(), WalkFault> {
-    match cost_of(book, i, j) {
-        Ok(Some(cost)) => println!(rt; "  {i} with {j}: {cost}")?,
-        Ok(None) => println!(rt; "  {i} with {j}: barred")?,
-        Err(fault) => {
-            let told = Told(fault.refusal());
-            println!(rt; "  {i} with {j}: {told}")?;
-        }
-    }
-    Ok(())
+    show(rt, &Question(i, j), cost_of(book, i, j).map(Price))
 }

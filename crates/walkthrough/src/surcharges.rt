@@ -15,10 +15,10 @@ pub(crate) fn walk(rt: &HostRuntime) -> Result<(), WalkFault> {
     )?;
     let mut layer = SurchargeLayer::new(book);
     show_step(rt, "set the amount to 50", layer.set_amount(50))?;
-    show_step(rt, "mark 3", layer.mark(3))?;
+    show_step(rt, "mark 3", layer.set_mark(3, true))?;
     ask(rt, &layer, 0, 1)?;
     ask(rt, &layer, 1, 3)?;
-    show_step(rt, "mark 1", layer.mark(1))?;
+    show_step(rt, "mark 1", layer.set_mark(1, true))?;
     ask(rt, &layer, 1, 3)?;
     ask(rt, &layer, 1, 2)?;
     show_step(
@@ -32,7 +32,7 @@ pub(crate) fn walk(rt: &HostRuntime) -> Result<(), WalkFault> {
         "set the amount to 1,000,001",
         layer.set_amount(1_000_001),
     )?;
-    show_step(rt, "unmark 3", layer.unmark(3))?;
+    show_step(rt, "unmark 3", layer.set_mark(3, false))?;
     ask(rt, &layer, 2, 3)?;
-    show_step(rt, "mark 4", layer.mark(4))
+    show_step(rt, "mark 4", layer.set_mark(4, true))
 }

@@ -8,28 +8,13 @@ use crate::show::*;
 use books::book::CostBook;
 use list_book::list::ListBook;
 
-// Whether a book gives two pieces a cost.
-fn allows<B: CostBook>(book: &B, i: usize, j: usize) -> bool
-    ensures { result ≡ Rattle.walkthrough.specs.Survey.allows (B.CostBook.means book.now) i j }
-{
-    match book.cost(i, j) {
-        Ok(Some(_)) => true,
-        Ok(None) => false,
-        Err(_) => false,
-    }
-}
-
 // How many pieces below `count` a piece may be paired with.
 fn count_row<B: CostBook>(book: &B, i: usize, count: usize) -> usize
     ensures { result ≡ row_allowed (B.CostBook.means book.now) i count }
 {
-    let mut seen = 0;
-    for j in 0..count {
-        if allows(book, i, j) {
-            seen += 1;
-        }
-    }
-    seen
+    (0..count)
+        .filter(|&j| book.pair_cost(i, j).is_some())
+        .count()
 }
 
 // How many questions for two pieces, in either order, a book answers with a cost.
@@ -37,11 +22,7 @@ fn count_allowed<B: CostBook>(book: &B) -> usize
     ensures { result ≡ all_allowed (B.CostBook.means book.now) }
 {
     let count = book.count();
-    let mut seen = 0;
-    for i in 0..count {
-        seen += count_row(book, i, count);
-    }
-    seen
+    (0..count).map(|i| count_row(book, i, count)).sum()
 }
 
 pub(crate) fn walk(rt: &HostRuntime) -> Result<(), WalkFault> {

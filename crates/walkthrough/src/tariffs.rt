@@ -16,23 +16,14 @@ pub(crate) fn morning_terms() -> Terms {
     }
 }
 
-fn piece(starts: u16, ends: u16, origin: u16, destination: u16) -> Piece {
-    Piece {
-        starts,
-        ends,
-        origin,
-        destination,
-    }
-}
-
 // A piece from 6:00 to 10:00, and four that might follow it.
 pub(crate) fn morning_pieces(heap: Global) -> Result<Vec<Piece>, AllocError> {
     let pieces = vec![in heap;
-        piece(360, 600, 1, 2),
-        piece(840, 1080, 2, 1),
-        piece(841, 1081, 2, 1),
-        piece(630, 900, 3, 1),
-        piece(629, 900, 3, 1),
+        Piece::new(360, 600, 1, 2),
+        Piece::new(840, 1080, 2, 1),
+        Piece::new(841, 1081, 2, 1),
+        Piece::new(630, 900, 3, 1),
+        Piece::new(629, 900, 3, 1),
     ]?;
     Ok(pieces)
 }
@@ -48,9 +39,9 @@ fn refuse_tariffs(rt: &HostRuntime, book: &mut TariffBook) -> Result<(), WalkFau
         book.load(terms, morning_pieces(heap)?),
     )?;
     let late = vec![in heap;
-        piece(360, 600, 1, 2),
-        piece(2879, 2881, 2, 1),
-        piece(5, 5, 1, 1),
+        Piece::new(360, 600, 1, 2),
+        Piece::new(2879, 2881, 2, 1),
+        Piece::new(5, 5, 1, 1),
     ]?;
     show_step(
         rt,

@@ -14,11 +14,8 @@ fn piece_record(mate: u16, price: i64, group: u16) -> PieceRecord {
 
 // The group records of a slip whose groups have this price and no parent.
 fn group_records(heap: Global, count: usize, price: i64) -> Result<Vec<GroupRecord>, AllocError> {
-    let mut groups = Vec::new(heap);
-    for k in 0..GROUPS {
-        let price = if k < count { price } else { 0 };
-        groups.push(GroupRecord { price, parent: 0 })?;
-    }
+    let mut groups = vec![in heap; GroupRecord { price, parent: 0 }; count]?;
+    groups.resize(GROUPS, BLANK_GROUP)?;
     Ok(groups)
 }
 
@@ -30,14 +27,7 @@ fn judge(
     marks: &[u8],
     slip: &Slip,
 ) -> Result<(), WalkFault> {
-    match check(book, marks, slip) {
-        Ok(_) => println!(rt; "  {step}: passes")?,
-        Err(fault) => {
-            let told = Told(fault.refusal());
-            println!(rt; "  {step}: {told}")?;
-        }
-    }
-    Ok(())
+    show(rt, &step, check(book, marks, slip).map(|_| "passes"))
 }
 
 // A book of these lines, or one of no pieces where they are refused.
@@ -58,7 +48,7 @@ fn four_pieces(rt: &HostRuntime) -> Result<(), WalkFault> {
         piece_record(1, 7, 0),
     ]?;
     let mut slip = Slip {
-        kind: PRICED,
+        kind: Kind::Priced.into(),
         total: 8,
         count: 0,
         pieces,
@@ -87,21 +77,21 @@ fn four_pieces(rt: &HostRuntime) -> Result<(), WalkFault> {
 // Two rings of three pieces at 2 for each two, joined by 2 with 3 at 20.
 fn ring_lines(heap: Global) -> Result<Vec<Line>, AllocError> {
     let lines = vec![in heap;
-        line(0, 1, 2),
-        line(0, 2, 2),
-        line(1, 2, 2),
-        line(2, 3, 20),
-        line(3, 4, 2),
-        line(3, 5, 2),
-        line(4, 5, 2),
+        Line::new(0, 1, 2),
+        Line::new(0, 2, 2),
+        Line::new(1, 2, 2),
+        Line::new(2, 3, 20),
+        Line::new(3, 4, 2),
+        Line::new(3, 5, 2),
+        Line::new(4, 5, 2),
     ]?;
     Ok(lines)
 }
 
 // Mates 0 with 1, 2 with 3 and 4 with 5 at prices of 2, each ring in a group of its own or in none.
 fn ring_slip(heap: Global, grouped: bool) -> Result<Slip, AllocError> {
-    let one = if grouped { 1 } else { 0 };
-    let two = if grouped { 2 } else { 0 };
+    let one = u16::from(grouped);
+    let two = 2 * one;
     let pieces = vec![in heap;
         piece_record(1, 2, one),
         piece_record(0, 2, one),
@@ -111,7 +101,7 @@ fn ring_slip(heap: Global, grouped: bool) -> Result<Slip, AllocError> {
         piece_record(4, 2, two),
     ]?;
     Ok(Slip {
-        kind: PRICED,
+        kind: Kind::Priced.into(),
         total: 24,
         count: two,
         pieces,
@@ -141,14 +131,9 @@ fn two_rings(rt: &HostRuntime) -> Result<(), WalkFault> {
 
 // Piece 0 goes with each of 1, 2 and 3; these have the part numbers that are given.
 fn star_slip(heap: Global, parts: [u16; 4]) -> Result<Slip, AllocError> {
-    let pieces = vec![in heap;
-        piece_record(NO_MATE, 0, parts[0]),
-        piece_record(NO_MATE, 0, parts[1]),
-        piece_record(NO_MATE, 0, parts[2]),
-        piece_record(NO_MATE, 0, parts[3]),
-    ]?;
+    let pieces = Vec::from_slice(heap, &parts.map(|part| piece_record(NO_MATE, 0, part)))?;
     Ok(Slip {
-        kind: GAP,
+        kind: Kind::Gap.into(),
         total: 0,
         count: 0,
         pieces,
@@ -159,7 +144,7 @@ fn star_slip(heap: Global, parts: [u16; 4]) -> Result<Slip, AllocError> {
 fn star(rt: &HostRuntime) -> Result<(), WalkFault> {
     println!(rt; "Slips for a star of four pieces, which has no pairing")?;
     let heap = rt.alloc();
-    let lines = vec![in heap; line(0, 1, 5), line(0, 2, 5), line(0, 3, 5)]?;
+    let lines = vec![in heap; Line::new(0, 1, 5), Line::new(0, 2, 5), Line::new(0, 3, 5)]?;
     let book = book_of(heap, 4, lines);
     judge(
         rt,

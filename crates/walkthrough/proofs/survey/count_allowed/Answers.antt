@@ -1,17 +1,17 @@
-use Rattle.std.proofs.Common.{arith, rules}
-use Rattle.ranges.proofs.Sums.{sum_more, sum_bound, count_bound}
+use Rattle.std.proofs.Common.{refl, arith, rules}
+use Rattle.ranges.proofs.Sums.{count_bound}
+use Rattle.ranges.proofs.Chains.{summed, sums_low}
 use Rattle.walkthrough.specs.Survey.{allows, row_allowed}
 use Rattle.walkthrough.proofs.survey.count_allowed.Goals as goal
 
-pub overflow_add-seen : goal.overflow_add-seen
-overflow_add-seen g c =
+pub sum-requires-clause-fits : goal.sum-requires-clause-fits
+sum-requires-clause-fits g c u seen from =
     let t = g.B.CostBook.means c.args.book.now in
     let few = (g.met.B.CostBook.sound c.args.book.now).few in
-    let rows = sum_bound c.loop-i.i 256 (λ i. row_allowed t i t.count) (λ k h. let b = count_bound t.count (allows t k) in omega arith) in
-    let row = count_bound t.count (allows t c.loop-i.i) in
-    search rules
+    let low = sums_low _ _ (λ i. row_allowed t i t.count) t.count 256 _ _ c.map.ensures.runs refl (search rules) (λ x y f called. search rules) (λ k. let r = count_bound t.count (allows t k) in omega arith) u seen from in
+    omega arith
 
-pub loop-i-preserved : goal.loop-i-preserved
-loop-i-preserved g c =
+pub returns : goal.returns
+returns g c =
     let t = g.B.CostBook.means c.args.book.now in
-    let e = sum_more c.loop-i.i (λ i. row_allowed t i t.count) in search rules
+    summed _ _ (λ i. row_allowed t i t.count) t.count c.sum.result _ _ (c.sum.ensures.runs (search rules)) c.map.ensures.runs refl (search rules) (λ x y f called. search rules)
