@@ -12,6 +12,7 @@ pub const MOST_BARS: usize = 64;
 #[derive(Drop)]
 pub struct BarLayer<B> {
     below: B,
+    // With room for all from the start, so that no later call wants memory, as one on a set might.
     bars: Vec<Pair>,
     ghost few: { vec_len bars ≤ 64 },
     ghost room: { 64 ≤ vec_capacity bars },

@@ -28,7 +28,7 @@ pub trait Refuses {
         ensures { result ≡ told self.now };
 }
 
-// A refusal that names nothing.
+// A refusal that names nothing. This and the next two are calls of their own: one for all would be handed a `Named`, and say no more.
 pub fn plain(number: u8) -> Refusal
     ensures { result ≡ told_plain number }
 {

@@ -15,8 +15,8 @@ use sheets::serve::*;
 use std::alloc::AllocFailed;
 use std::collections::VecDeque;
 
-// Makes all calls in their order, and puts their answers behind those that are there. Refused, with the sheet, where there is no memory for the
-// answers; no call is made then.
+// Makes all calls in their order, with marks and queue apart as for one call, and puts their answers behind those that are
+// there. Refused, with the sheet, where there is no memory for the answers; no call is made then.
 pub fn run_calls<'a, B: CostBook>(
     mut sheet: Sheet,
     marks: &mut [u8],

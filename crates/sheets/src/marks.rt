@@ -10,7 +10,7 @@ pub enum Mark {
     Struck,
 }
 
-// A byte that is that of no mark.
+// A byte that is that of no mark. One type for kinds and marks would be no plainer: each holds one number, and its name says what could not be read.
 #[derive(Clone, Copy, PartialEq, Eq, Debug)]
 pub struct UnknownMark(pub u8);
 

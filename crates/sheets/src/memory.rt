@@ -30,7 +30,8 @@ fn are_marks(bytes: &[u8]) -> bool
     bytes.iter().all(|byte| is_mark(*byte))
 }
 
-// Whether there is one mark for each piece, and as many of 1 and 2 as counted. The counts come apart, since a closed sheet keeps none of what is taken.
+// Whether there is one mark for each piece, and as many of 1 and 2 as counted. The counts come apart: open
+// and closed sheets are two types, and a struct of the counts of both would be made for each call.
 #[tactic(auto, unfolding(sheet_register::specs::Memory::marks_agree))]
 pub(crate) fn marks_agree(marks: &[u8], pieces: usize, taken: usize, struck: usize) -> bool
     ensures { (waiting : ℕ) → result ≡ marks_agree (record { pieces = pieces; taken = taken; struck = struck; waiting = waiting }) marks.now }

@@ -119,7 +119,8 @@ fn serve_open<'a, B: CostBook>(
     (Sheet::Open(sheet), answer)
 }
 
-// One call on a sheet in whichever state: a move of a run, or, where the sheet does not allow it, no change.
+// One call on a sheet in whichever state: a move of a run, or, where the sheet does not allow it, no change. Marks and queue come apart, as the planner
+// lends them: one struct would ask callers of this call for another type.
 pub fn serve<'a, B: CostBook>(
     sheet: Sheet,
     marks: &mut [u8],
@@ -131,7 +132,7 @@ pub fn serve<'a, B: CostBook>(
     ensures records { records queue.new ≡ records_after call.entry result.1 queue.old }
 {
     match (sheet, call) {
-        // The pair is taken apart, since the check does not follow arms of which one alone has its pair whole from a call.
+        // Handing on the pair that `serve_open` gives was tried: the borrow checker does not cover a match of which one arm is a call and the others pairs.
         (Sheet::Open(open), Call::OnOpen(call)) => {
             let (after, answer) = serve_open(open, marks, queue, call);
             (after, answer)

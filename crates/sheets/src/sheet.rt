@@ -19,6 +19,7 @@ pub struct OpenSheet {
     waiting: usize,
 }
 
+// A type of its own and of plain numbers, as the open one: a third for what they share would stand between a caller and both.
 #[derive(Drop)]
 pub struct ClosedSheet {
     number: u32,

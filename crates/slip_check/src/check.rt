@@ -35,6 +35,7 @@ fn first_fault<B: CostBook>(book: &B, marks: &[u8], slip: &Slip) -> Result<(), S
         return Err(SlipFault::Shape);
     }
     let shaped = ShapedSlip { book, marks, slip };
+    // Three arms, one for each thing that the number may be: with `map_err` and `?` the third would stand before the other two.
     match Kind::try_from(slip.kind) {
         Ok(Kind::Priced) => check_priced(shaped),
         Ok(Kind::Gap) => unless(shaped.is_gap(), SlipFault::Gap),

@@ -15,6 +15,7 @@ impl<'a, B: CostBook> ShapedSlip<'a, B> {
     fn are_groups_blank(&self) -> bool
         ensures { result ≡ blank_groups (view_of self.now) }
     {
+        // By place, as the tests of all other records: over the records themselves the proof did not close.
         (0..GROUPS).all(|k| self.group(k) == BLANK_GROUP)
     }
 

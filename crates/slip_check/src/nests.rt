@@ -1,4 +1,5 @@
-// The way up through the groups around a piece, and the prices between two.
+// The way up through the groups around a piece, and the prices between two. A way up is told by group numbers, which rise, and ends with 0, as the
+// records have it: the loops compare these numbers and count nothing.
 ghost use Rattle.std.specs.Prelude.{◌≡◌, ◌<◌, ◌≤◌, true};
 ghost use Rattle.slips.specs.View.{piece_at, parent, worth};
 ghost use Rattle.slips.specs.Groups.{inside};
@@ -42,7 +43,7 @@ impl<'a, B: CostBook> PricedSlip<'a, B> {
         at != 0 && at == h
     }
 
-    // The price of group g.
+    // The price of group g, which its test has shown to be positive, so that `as` loses nothing.
     fn price_of(&self, g: usize) -> u64
         requires some { 0 < g }
         requires few { g ≤ (view_of self.now.shaped).count }
@@ -75,7 +76,7 @@ impl<'a, B: CostBook> PricedSlip<'a, B> {
     }
 }
 
-// Whether the way up from a comes before the way up from b: by the lower number, 0 last.
+// Whether the way up from a comes before the way up from b: by the lower number, 0 last, which no derived order of numbers has.
 fn is_lower(a: usize, b: usize) -> bool
     ensures { result ≡ first_up a b }
 {

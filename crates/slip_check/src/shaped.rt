@@ -9,10 +9,12 @@ use books::book::CostBook;
 use slips::fault::SlipFault;
 use slips::slip::*;
 
-// A slip with a record for each piece of a book, and all group records; with the book and the planner's marks.
+// A slip with a record for each piece of a book, and all group records; with the book and the planner's marks. Its methods are asked for pieces and
+// groups by number, as records name them: a type for a number in range would have to be made and tested for each.
 #[derive(Drop)]
 pub(crate) struct ShapedSlip<'a, B: CostBook> {
     pub(crate) book: &'a B,
+    // Beside the records, since the planner lends the marks as a table of bytes.
     pub(crate) marks: &'a [u8],
     pub(crate) slip: &'a Slip,
     ghost piece_records: { length (view slip.now).pieces ≡ (B.CostBook.means book.now).count },
@@ -60,11 +62,12 @@ impl<'a, B: CostBook> ShapedSlip<'a, B> {
         self.slip.groups[k]
     }
 
-    // Whether a piece is live by the planner's marks: its mark is 0, or 1 where its withdrawal is taken.
+    // Whether a piece is live by the planner's marks: its mark is 0, or 1 where its withdrawal is taken. Any other byte may stand there, and is no mark of
+    // a live piece, so that no mark has to be read.
     pub(crate) fn is_live(&self, u: usize) -> bool
         ensures { result ≡ (problem_of self.now).live u }
     {
-        u < self.size() && u < self.marks.len() && self.marks[u] <= 1
+        u < self.size() && self.marks.get(u).is_some_and(|mark| *mark <= 1)
     }
 
     // What two pieces cost, `None` where one is not live or they are barred.

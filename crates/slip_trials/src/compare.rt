@@ -17,6 +17,8 @@ use std::alloc::{AllocError, Global};
 // How many slips are compared.
 const SLIPS: u32 = 8000;
 
+// The heap and the dice stay two parameters, here and in the modules that make slips: much is made where nothing is drawn, and drawn where nothing is made.
+
 // A slip of one of eight families, damaged so many times.
 // The families come in turn by number: names for them would stand only here.
 fn deal_one(heap: Global, dice: &mut Dice, family: u32) -> Result<Deal, AllocError> {

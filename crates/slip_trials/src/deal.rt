@@ -21,6 +21,7 @@ pub struct Deal {
     pub slip: Slip,
 }
 
+// Blank records, written out: the independent check shares no constant of the tests with the library.
 pub(crate) fn blank_piece() -> PieceRecord {
     PieceRecord {
         mate: 65535,
@@ -70,7 +71,7 @@ pub(crate) fn lines(heap: Global, pairs: &[Pair]) -> Result<Vec<Line>, AllocErro
         .collect(heap)
 }
 
-// Every pair of so many pieces, each with the cost that it is given.
+// Every pair of so many pieces, each with the cost that it is given. Two loops: of a chain, the inner closure would have to hand on the one that draws.
 pub(crate) fn all_pairs<F: FnMut(usize, usize) -> Option<u32>>(
     heap: Global,
     count: usize,

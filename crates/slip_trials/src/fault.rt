@@ -1,4 +1,4 @@
-// What stops the trials: want of memory, output that is not taken, or a book that refuses its lines.
+// What stops the trials: want of memory, output that is not taken, or a book that refuses its lines. Each program has a fault of its own, made by `From`.
 use books::fault::BookFault;
 use std::alloc::{AllocError, AllocFailed};
 use std::io;

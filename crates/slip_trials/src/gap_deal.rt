@@ -1,4 +1,5 @@
 // Gap slips: parts are drawn first, and no pair of two parts is allowed.
+// Dice and slip stay two parameters: a struct of both would be made for each call alone.
 use crate::deal::*;
 use crate::dice::Dice;
 use crate::look::*;

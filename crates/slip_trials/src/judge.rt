@@ -1,10 +1,10 @@
 // The independent check: every test is made to its end, and the soonest of all that fails is the answer.
 use crate::deal::*;
+use crate::group_pieces::*;
 use crate::judge_gap::*;
 use crate::judge_groups::*;
 use crate::judge_prices::*;
 use crate::look::*;
-use crate::rooms::*;
 use slips::fault::SlipFault;
 use std::alloc::{AllocError, Global};
 
@@ -73,13 +73,13 @@ fn find_pieces(deal: &Deal) -> Option<Finding> {
 
 // The soonest of all that the tests of a priced slip find.
 fn find_priced(heap: Global, deal: &Deal) -> Result<Option<Finding>, AllocError> {
-    // Deal and rooms stay two parameters: more than half of the tests need no rooms.
-    let rooms = rooms(heap, &deal.slip)?;
+    // Deal and groups stay two parameters: more than half of the tests need no group.
+    let groups = groups_of(heap, &deal.slip)?;
     let found = [
         find_total(deal),
-        find_crossings(deal, &rooms),
-        find_prices(deal, &rooms),
-        find_odd(deal, &rooms),
+        find_crossings(deal, &groups),
+        find_prices(deal, &groups),
+        find_odd(deal, &groups),
         find_nests(deal),
         find_unused(deal),
         find_count(deal),

@@ -1,8 +1,8 @@
 // The tests of the groups.
 use crate::deal::*;
+use crate::group_pieces::*;
 use crate::judge::*;
 use crate::look::*;
-use crate::rooms::*;
 use slips::slip::Slip;
 
 pub(crate) fn find_count(deal: &Deal) -> Option<Finding> {
@@ -36,15 +36,15 @@ pub(crate) fn find_nests(deal: &Deal) -> Option<Finding> {
 }
 
 // Whether an odd number of live pieces, three at least, is inside a group.
-fn is_odd(deal: &Deal, room: &Room) -> bool {
-    let count = room.pieces.iter().filter(|u| is_live(deal, **u)).count();
+fn is_odd(deal: &Deal, group: &GroupPieces) -> bool {
+    let count = group.pieces.iter().filter(|u| is_live(deal, **u)).count();
     count % 2 == 1 && count >= 3
 }
 
-pub(crate) fn find_odd(deal: &Deal, rooms: &[Room]) -> Option<Finding> {
-    rooms
+pub(crate) fn find_odd(deal: &Deal, groups: &[GroupPieces]) -> Option<Finding> {
+    groups
         .iter()
-        .filter(|room| !is_odd(deal, room))
-        .map(|room| Finding::Odd(usize::from(room.group)))
+        .filter(|group| !is_odd(deal, group))
+        .map(|group| Finding::Odd(usize::from(group.number)))
         .min()
 }

@@ -1,11 +1,11 @@
 // What a deal says of a piece or of two.
 use crate::deal::*;
-use crate::marks::*;
 use slips::slip::*;
 
-// Whether a number is that of a live piece.
+// Whether a number is that of a live piece: its mark is 0 or 1. The independent check shares
+// this test neither with the library nor with the maker of slips.
 pub(crate) fn is_live(deal: &Deal, u: usize) -> bool {
-    u < deal.count && deal.marks.get(u).is_some_and(|mark| is_live_mark(*mark))
+    u < deal.count && deal.marks.get(u).is_some_and(|mark| *mark < 2)
 }
 
 pub(crate) fn both_live(deal: &Deal, pair: &Pair) -> bool {
@@ -17,7 +17,7 @@ pub(crate) fn piece_record(slip: &Slip, u: usize) -> PieceRecord {
     slip.pieces.get(u).copied().unwrap_or(blank_piece())
 }
 
-// The cost of two pieces, sought through all pairs.
+// The cost of two pieces, sought pair by pair: the independent check has no order of pairs.
 pub(crate) fn cost_between(pairs: &[Pair], u: usize, v: usize) -> Option<u32> {
     pairs
         .iter()
@@ -26,7 +26,7 @@ pub(crate) fn cost_between(pairs: &[Pair], u: usize, v: usize) -> Option<u32> {
 }
 
 // Whether two pieces are mates by their records.
-// Two pieces stay two parameters, here and below: a `Pair` has a cost, and where costs are made there is none yet.
+// Two pieces stay two parameters, here and in all of this program: a `Pair` has a cost, and where costs are made there is none yet.
 pub(crate) fn are_mates(slip: &Slip, u: usize, v: usize) -> bool {
     usize::from(piece_record(slip, u).mate) == v && usize::from(piece_record(slip, v).mate) == u
 }

@@ -17,9 +17,9 @@ pub(crate) fn marks(heap: Global, dice: &mut Dice, count: usize) -> Result<Vec<u
     (0..count).map(|_| mark(dice)).collect(heap)
 }
 
-// A piece is live where its mark is 0 or 1.
-pub(crate) fn is_live_mark(mark: u8) -> bool {
-    mark < 2
+// A piece is live where its mark is 0 or 1. The independent check has a test of its own, so that it shares none with the maker of slips.
+fn is_live_mark(mark: u8) -> bool {
+    matches!(mark, 0 | 1)
 }
 
 // The live pieces, rising.

@@ -1,9 +1,10 @@
 // Priced slips that pass: mates, prices and groups are drawn first, and the costs are made to fit them.
+// Dice and slip stay two parameters: a struct of both would be made for each call alone.
 use crate::deal::*;
 use crate::dice::Dice;
+use crate::group_pieces::*;
 use crate::look::*;
 use crate::marks::*;
-use crate::rooms::*;
 use crate::shapes::*;
 use slips::slip::*;
 use std::alloc::{AllocError, Global};
@@ -110,27 +111,33 @@ fn join(dice: &mut Dice, slip: &mut Slip, live: usize, u: usize, v: usize, apart
 }
 
 // Makes the first two pieces of an order mates, the next two, and so on.
-fn join_all(dice: &mut Dice, slip: &mut Slip, rooms: &[Room], order: &[usize]) {
+fn join_all(dice: &mut Dice, slip: &mut Slip, groups: &[GroupPieces], order: &[usize]) {
     for pair in order.chunks_exact(2) {
         if let [u, v] = *pair {
-            join(dice, slip, order.len(), u, v, between(rooms, u, v));
+            join(dice, slip, order.len(), u, v, between(groups, u, v));
         }
     }
 }
 
 // The least cost at which two pieces have a margin of 0 or 1; 0 where any cost has more.
-fn least_cost(slip: &Slip, rooms: &[Room], u: usize, v: usize) -> u128 {
-    prices_of(slip, rooms, u, v)
+fn least_cost(slip: &Slip, groups: &[GroupPieces], u: usize, v: usize) -> u128 {
+    prices_of(slip, groups, u, v)
         .max(0)
         .unsigned_abs()
         .div_ceil(2)
 }
 
 // The cost of a pair: of mates the least; of others now and then none, else the least or little more, if that is a cost.
-fn fit_cost(dice: &mut Dice, slip: &Slip, rooms: &[Room], u: usize, v: usize) -> Option<u32> {
+fn fit_cost(
+    dice: &mut Dice,
+    slip: &Slip,
+    groups: &[GroupPieces],
+    u: usize,
+    v: usize,
+) -> Option<u32> {
     let slack = u128::from(dice.roll(3));
     let none = dice.roll(3) == 0;
-    let least = least_cost(slip, rooms, u, v);
+    let least = least_cost(slip, groups, u, v);
     let cost = if are_mates(slip, u, v) {
         least
     } else if none {
@@ -157,9 +164,9 @@ pub(crate) fn deal_priced<F: FnOnce(&mut Dice, usize) -> Shape>(
     let shape = draw_shape(dice, order.len());
     let mut slip = blank_slip(heap, 1, count)?;
     lay_groups(heap, dice, &mut slip, &order, &shape)?;
-    let rooms = rooms(heap, &slip)?;
-    join_all(dice, &mut slip, &rooms, &order);
-    let pairs = all_pairs(heap, count, |u, v| fit_cost(dice, &slip, &rooms, u, v))?;
+    let groups = groups_of(heap, &slip)?;
+    join_all(dice, &mut slip, &groups, &order);
+    let pairs = all_pairs(heap, count, |u, v| fit_cost(dice, &slip, &groups, u, v))?;
     let mut deal = Deal {
         count,
         pairs,

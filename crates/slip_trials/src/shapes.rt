@@ -1,5 +1,6 @@
 // Which groups a slip has: the group of each of eight pieces, of which the first two are mates, then the next two, and so on.
 use crate::dice::Dice;
+use std::array;
 
 #[derive(Clone, Copy)]
 pub struct Shape {
@@ -10,10 +11,9 @@ pub struct Shape {
 }
 
 fn laid(inner: [u16; 8], parents: &[u16]) -> Shape {
-    let parent = |k: usize| parents.get(k).copied();
     Shape {
         inner,
-        parents: [parent(0), parent(1), parent(2)],
+        parents: array::from_fn(|k| parents.get(k).copied()),
     }
 }
 

@@ -21,7 +21,7 @@ pub enum Kind {
     Gap,
 }
 
-// A number that is that of no kind.
+// A number that is that of no kind. One type for kinds and marks would be no plainer: each holds one number, and its name says what could not be read.
 #[derive(Clone, Copy, PartialEq, Eq, Debug)]
 pub struct UnknownKind(pub u8);
 

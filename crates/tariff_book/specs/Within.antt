@@ -44,5 +44,9 @@ no_fault t ps e =
     (leb-true (length ps) most_pieces p.0, p.1, p.2)
 
 -- a record that was read from the list is within its limits
-pub read_good : (t : Terms) (ps : List Piece) (k : ℕ) (p : Piece) → IsNone (tariff_fault t ps) → k < length ps → p ≡ slice_index_or ps k p → GoodPiece p
-read_good t ps k p e h r = subst GoodPiece (sym (get_or_read ps k p h r _)) (pieces_good ps (no_fault t ps e).2 k h)
+pub read_good : (ps : List Piece) (k : ℕ) (p : Piece) → IsNone (pieces_fault ps) → k < length ps → p ≡ slice_index_or ps k p → GoodPiece p
+read_good ps k p e h r = subst GoodPiece (sym (get_or_read ps k p h r _)) (pieces_good ps e k h)
+
+-- and so in a tariff without a fault
+pub tariff_read_good : (t : Terms) (ps : List Piece) (k : ℕ) (p : Piece) → IsNone (tariff_fault t ps) → k < length ps → p ≡ slice_index_or ps k p → GoodPiece p
+tariff_read_good t ps k p e = read_good ps k p (no_fault t ps e).2

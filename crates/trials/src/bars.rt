@@ -5,14 +5,11 @@ use book_layers::bar::BarLayer;
 use books::book::CostBook;
 use books::fault::BookFault;
 use list_book::list::ListBook;
-use std::alloc::{AllocError, Global};
+use std::alloc::Global;
 use std::test::Fail;
 
-// A layer over 256 pieces of which the first 255 lines pair piece 0.
-fn layer_of(heap: Global) -> Result<BarLayer<ListBook>, AllocError> {
-    let mut book = ListBook::new(heap);
-    let _ = book.load(256, many_lines(heap, 255)?);
-    let layer = BarLayer::new(heap, book)?;
+fn layer_of(heap: Global) -> Result<BarLayer<ListBook>, Fail> {
+    let layer = BarLayer::new(heap, book_of_255(heap)?)?;
     Ok(layer)
 }
 
@@ -56,8 +53,8 @@ fn pieces_outside_come_before_equal_ones(rt: HostRuntime) -> Result<(), Fail> {
 #[test]
 fn sixty_four_bars_and_no_more(rt: HostRuntime) -> Result<(), Fail> {
     let mut layer = layer_of(rt.alloc())?;
-    for j in 0..64usize {
-        assert_eq!(rt; layer.bar(0, j + 1), Ok(()));
+    for j in 1..=64 {
+        assert_eq!(rt; layer.bar(0, j), Ok(()));
     }
     assert_eq!(rt; refused(layer.bar(0, 65)), plain(10));
     assert_eq!(rt; layer.cost(0, 65), Ok(Some(65)));

@@ -16,6 +16,13 @@ pub(crate) fn many_lines(heap: Global, count: u32) -> Result<Vec<Line>, AllocErr
         .collect(heap)
 }
 
+// 256 pieces, of which the first 255 lines pair piece 0.
+pub(crate) fn book_of_255(heap: Global) -> Result<ListBook, Fail> {
+    let mut book = ListBook::new(heap);
+    book.load(256, many_lines(heap, 255)?)?;
+    Ok(book)
+}
+
 #[test]
 fn a_new_list_has_no_piece(rt: HostRuntime) {
     let book = ListBook::new(rt.alloc());

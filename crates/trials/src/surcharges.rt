@@ -6,20 +6,11 @@ use book_layers::pile::cost_in_pile;
 use book_layers::surcharge::SurchargeLayer;
 use books::book::CostBook;
 use books::fault::BookFault;
-use list_book::list::ListBook;
-use std::alloc::{AllocError, Global};
 use std::test::Fail;
-
-// 256 pieces, of which the first 255 lines pair piece 0.
-fn book_of(heap: Global) -> Result<ListBook, AllocError> {
-    let mut book = ListBook::new(heap);
-    let _ = book.load(256, many_lines(heap, 255)?);
-    Ok(book)
-}
 
 #[test]
 fn each_marked_end_adds_the_amount(rt: HostRuntime) -> Result<(), Fail> {
-    let mut layer = SurchargeLayer::new(book_of(rt.alloc())?);
+    let mut layer = SurchargeLayer::new(book_of_255(rt.alloc())?);
     assert_eq!(rt; layer.count(), 256);
     assert_eq!(rt; layer.cost(0, 9), Ok(Some(9)));
     assert_eq!(rt; layer.set_amount(100), Ok(()));
@@ -41,7 +32,7 @@ fn each_marked_end_adds_the_amount(rt: HostRuntime) -> Result<(), Fail> {
 
 #[test]
 fn the_amount_and_the_sum_have_a_limit(rt: HostRuntime) -> Result<(), Fail> {
-    let mut layer = SurchargeLayer::new(book_of(rt.alloc())?);
+    let mut layer = SurchargeLayer::new(book_of_255(rt.alloc())?);
     assert_eq!(rt; layer.set_mark(1, true), Ok(()));
     assert_eq!(rt; layer.set_amount(999_999), Ok(()));
     assert_eq!(rt; layer.cost(0, 1), Ok(Some(1_000_000)));
@@ -61,7 +52,7 @@ fn the_amount_and_the_sum_have_a_limit(rt: HostRuntime) -> Result<(), Fail> {
 
 #[test]
 fn layers_pile(rt: HostRuntime) -> Result<(), Fail> {
-    let mut low = BarLayer::new(rt.alloc(), book_of(rt.alloc())?)?;
+    let mut low = BarLayer::new(rt.alloc(), book_of_255(rt.alloc())?)?;
     assert_eq!(rt; low.bar(0, 1), Ok(()));
     let mut middle = SurchargeLayer::new(low);
     assert_eq!(rt; middle.set_amount(10), Ok(()));

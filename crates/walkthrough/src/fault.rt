@@ -1,4 +1,6 @@
-// What stops the walkthrough: want of memory, or output that is not taken.
+// What stops the walkthrough: want of memory, output that is not taken, or a book that refuses lines that it should take. Each program has a fault of its
+// own, made by `From`.
+use books::fault::BookFault;
 use std::alloc::{AllocError, AllocFailed};
 use std::io;
 
@@ -6,6 +8,7 @@ use std::io;
 pub enum WalkFault {
     Memory,
     Output,
+    Book,
 }
 
 impl From<AllocError> for WalkFault {
@@ -23,5 +26,11 @@ impl<T: Drop> From<AllocFailed<T>> for WalkFault {
 impl From<io::Error> for WalkFault {
     fn from(_error: io::Error) -> WalkFault {
         WalkFault::Output
+    }
+}
+
+impl From<BookFault> for WalkFault {
+    fn from(_fault: BookFault) -> WalkFault {
+        WalkFault::Book
     }
 }

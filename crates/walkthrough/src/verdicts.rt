@@ -30,17 +30,16 @@ fn judge(
     show(rt, &step, check(book, marks, slip).map(|_| "passes"))
 }
 
-// A book of these lines, or one of no pieces where they are refused.
-fn book_of(heap: Global, count: usize, lines: Vec<Line>) -> ListBook {
+fn book_of(heap: Global, count: usize, lines: Vec<Line>) -> Result<ListBook, WalkFault> {
     let mut book = ListBook::new(heap);
-    let _ = book.load(count, lines);
-    book
+    book.load(count, lines)?;
+    Ok(book)
 }
 
 fn four_pieces(rt: &HostRuntime) -> Result<(), WalkFault> {
     println!(rt; "Slips for the list of four pieces")?;
     let heap = rt.alloc();
-    let book = book_of(heap, 4, morning_lines(heap)?);
+    let book = book_of(heap, 4, morning_lines(heap)?)?;
     let pieces = vec![in heap;
         piece_record(2, 1, 0),
         piece_record(3, 1, 0),
@@ -112,7 +111,7 @@ fn ring_slip(heap: Global, grouped: bool) -> Result<Slip, AllocError> {
 fn two_rings(rt: &HostRuntime) -> Result<(), WalkFault> {
     println!(rt; "Slips for two rings of three pieces")?;
     let heap = rt.alloc();
-    let book = book_of(heap, 6, ring_lines(heap)?);
+    let book = book_of(heap, 6, ring_lines(heap)?)?;
     judge(
         rt,
         "all prices 2, two groups at 18, total 24",
@@ -145,7 +144,7 @@ fn star(rt: &HostRuntime) -> Result<(), WalkFault> {
     println!(rt; "Slips for a star of four pieces, which has no pairing")?;
     let heap = rt.alloc();
     let lines = vec![in heap; Line::new(0, 1, 5), Line::new(0, 2, 5), Line::new(0, 3, 5)]?;
-    let book = book_of(heap, 4, lines);
+    let book = book_of(heap, 4, lines)?;
     judge(
         rt,
         "piece 0 cut, three parts",

@@ -42,6 +42,7 @@ fn set_mark(marks: &mut [u8], piece: usize, mark: Mark)
 }
 
 // Each call is lent marks and queue apart, and each for writing only where the call writes it: one struct of both would ask for writing of all.
+// Each call tests first that they agree, and refuses in its own fault: one function for that would need a conversion to each of them, to save a line.
 impl OpenSheet {
     // Whether marks and queue agree with what the sheet counts.
     #[tactic(auto, unfolding(sheet_register::specs::Memory::agrees))]
@@ -70,6 +71,7 @@ impl OpenSheet {
         if request.piece >= self.pieces {
             return Err(PostFault::PieceOutside(request.piece));
         }
+        // No `From`, which would tie the faults of sheets to the queue for one call.
         queue.push(request).map_err(|_| PostFault::QueueFull)?;
         self.waiting = queue.len();
         Ok(())
@@ -124,7 +126,8 @@ impl OpenSheet {
         ensures spent { OnOk result (open_view self.new ≡ one_less (open_view self.old)) }
 
         ensures refused { IfErr result (λ f. refused (docket_told f)
-            ≡ (if agrees (open_view self.old).counts marks.now (waiting queue.now) then settled self.old.number marks.now (docket_view docket) else disagreed)) }
+            ≡ (if agrees (open_view self.old).counts marks.now (waiting queue.now)
+            then settled self.old.number marks.now (docket_view docket) else disagreed)) }
         ensures back { IfErr result (λ f. f.value ≡ docket) }
         ensures err { OnErr result (open_view self.new ≡ open_view self.old) }
     {
@@ -145,7 +148,7 @@ impl OpenSheet {
         Ok(piece)
     }
 
-    // Spends a docket: its piece is struck.
+    // Spends a docket: its piece is struck. The product names two calls that do so, this and the next.
     pub fn strike(
         &mut self,
         marks: &mut [u8],

@@ -6,15 +6,15 @@ use std::iter;
 
 // A group, its price, and all pieces inside it.
 #[derive(Drop)]
-pub struct Room {
-    pub group: u16,
+pub struct GroupPieces {
+    pub number: u16,
     pub price: i64,
     pub pieces: Vec<usize>,
 }
 
-impl Room {
+impl GroupPieces {
     // Whether exactly one of two pieces is inside.
-    pub fn parts(&self, u: usize, v: usize) -> bool {
+    pub fn separates(&self, u: usize, v: usize) -> bool {
         self.pieces.contains(&u) != self.pieces.contains(&v)
     }
 }
@@ -42,41 +42,42 @@ fn meets(slip: &Slip, from: u16, h: u16) -> bool {
         .any(|g| g == h)
 }
 
-fn room_of(heap: Global, slip: &Slip, group: u16) -> Result<Room, AllocError> {
+fn pieces_of(heap: Global, slip: &Slip, number: u16) -> Result<GroupPieces, AllocError> {
     let pieces = slip
         .pieces
         .iter()
         .enumerate()
-        .filter(|(_, record)| meets(slip, record.group, group))
+        .filter(|(_, record)| meets(slip, record.group, number))
         .map(|(piece, _)| piece)
         .collect(heap)?;
-    let price = group_price(slip, group);
-    Ok(Room {
-        group,
+    let price = group_price(slip, number);
+    Ok(GroupPieces {
+        number,
         price,
         pieces,
     })
 }
 
 // Each group up to the count, of which 127 are looked at.
-pub(crate) fn rooms(heap: Global, slip: &Slip) -> Result<Vec<Room>, AllocError> {
+pub(crate) fn groups_of(heap: Global, slip: &Slip) -> Result<Vec<GroupPieces>, AllocError> {
     (1..=slip.count.min(127))
-        .map(|group| room_of(heap, slip, group))
+        .map(|number| pieces_of(heap, slip, number))
         .try_collect(heap)
 }
 
 // The prices of the groups that hold exactly one of two pieces.
-pub(crate) fn between(rooms: &[Room], u: usize, v: usize) -> i128 {
-    rooms
+pub(crate) fn between(groups: &[GroupPieces], u: usize, v: usize) -> i128 {
+    groups
         .iter()
-        .filter(|room| room.parts(u, v))
-        .map(|room| i128::from(room.price))
+        .filter(|group| group.separates(u, v))
+        .map(|group| i128::from(group.price))
         .fold(0, i128::wrapping_add)
 }
 
-// The prices of two pieces, and of the groups that hold exactly one of them.
-pub(crate) fn prices_of(slip: &Slip, rooms: &[Room], u: usize, v: usize) -> i128 {
+// The prices of two pieces, and of the groups that hold exactly one of them. Slip and groups stay two parameters, here and where slips are made: a slip is
+// changed after its groups are worked out.
+pub(crate) fn prices_of(slip: &Slip, groups: &[GroupPieces], u: usize, v: usize) -> i128 {
     let first = i128::from(piece_record(slip, u).price);
     let second = i128::from(piece_record(slip, v).price);
-    between(rooms, u, v).wrapping_add(first + second)
+    between(groups, u, v).wrapping_add(first + second)
 }
