@@ -1,5 +1,5 @@
 -- What a loaded list answers and why a list is refused, in the words of its lines.
-use Rattle.std.specs.Prelude.{◌≡◌, ℕ, ◌+◌, ◌<◌, ◌≤◌, min, max, true, List, length, Some, None}
+use Rattle.std.specs.Prelude.{◌≡◌, ℕ, ◌+◌, ◌<◌, ◌≤◌, min, max, true, false, List, length, Some, None}
 use Rattle.books.specs.declared.fault.BookFault.{BookFault}
 use Rattle.books.specs.declared.fault.BookFault.TheVariants.{TooManyPieces, TooManyLines, LineOutside, LineOrder, CostTooHigh, AmountTooHigh, TermOutside, RecordOutside, PieceOutside, EqualPieces, BarsFull, NoMemory}
 use Rattle.books.specs.Limits.{most_pieces, most_cost}
@@ -14,6 +14,12 @@ OnLine ls i j c = (k : ℕ) × (k < length ls) × (line ls k ≡ line_of i j c)
 -- each line stands before all that follow it
 abbrev pub Rising : List Line → Type 0
 Rising ls = (k m : ℕ) → k < m → m < length ls → precedes (line ls k) (line ls m).lower (line ls m).higher ≡ true
+
+-- the lines before place r stand before a pair, and from r on none does
+pub record Parted (ls : List Line) (i j r : ℕ) : Type 0 where
+  pub within : r ≤ length ls
+  pub under : (k : ℕ) → k < r → precedes (line ls k) i j ≡ true
+  pub above : (k : ℕ) → r ≤ k → k < length ls → precedes (line ls k) i j ≡ false
 
 -- the three tests of the line at place k
 abbrev pub Within : ℕ → List Line → ℕ → Type 0

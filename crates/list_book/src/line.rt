@@ -31,6 +31,13 @@ impl Line {
         }
     }
 
+    // Whether the line stands before the place of two pieces, the lower first. By hand: tuples compare in three ways, which a search pays for at each step.
+    pub(crate) fn precedes(&self, lower: usize, higher: usize) -> bool
+        ensures { result ≡ Rattle.list_book.specs.Lines.precedes self.now lower higher }
+    {
+        self.lower < lower || self.lower == lower && self.higher < higher
+    }
+
     // The two pieces, the lower first: by them lines rise.
     pub(crate) fn pieces(&self) -> (usize, usize)
         ensures { result ≡ (self.now.lower, self.now.higher) }

@@ -2,7 +2,7 @@
 ghost use Rattle.std.specs.Prelude.{◌≡◌, is_ok, if◌then◌else◌, OnOk, IfErr};
 ghost use Rattle.std.specs.Result.{result_err};
 ghost use Rattle.books.specs.Table.{no_table};
-ghost use Rattle.list_book.specs.Lines.{lines_fault, list_fault, list_table};
+ghost use Rattle.list_book.specs.Lines.{line_cost, lines_fault, list_fault, list_table};
 ghost use Rattle.list_book.specs.Listed.{Lists, Blamed};
 ghost use Rattle.list_book.specs.Meaning.{list_means};
 ghost use Rattle.list_book.specs.Lawful.{list_sound};
@@ -63,6 +63,17 @@ impl ListBook {
         self.lines = lines;
         Ok(())
     }
+
+    // The cost on the line of two pieces, the lower first.
+    fn find_cost(&self, lower: usize, higher: usize) -> Option<u32>
+        ensures { result ≡ line_cost self.now.lines.items lower higher }
+    {
+        let at = self
+            .lines
+            .partition_point(|line| line.precedes(lower, higher));
+        let line = self.lines.get(at)?;
+        (line.pieces() == (lower, higher)).then_some(line.cost)
+    }
 }
 
 impl CostBook for ListBook {
@@ -75,11 +86,6 @@ impl CostBook for ListBook {
     }
 
     fn pair_cost(&self, i: usize, j: usize) -> Option<u32> {
-        let pieces = (i.min(j), i.max(j));
-        let at = self
-            .lines
-            .binary_search_by_key(&pieces, |line| line.pieces())
-            .ok()?;
-        Some(self.lines[at].cost)
+        self.find_cost(i.min(j), i.max(j))
     }
 }
