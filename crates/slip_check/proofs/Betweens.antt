@@ -70,6 +70,9 @@ turn_between (suc n) x y w = let e = turn_between n x y w in let t = turn_cond (
 abbrev pub rank : ℕ → ℕ → ℕ
 rank count g = cond (eqb g 0) 0 (count + 1 - g)
 
+pub rank_few : (count g : ℕ) → count ≤ 127 → rank count g ≤ 127
+rank_few count g h = grind (arith, nat_tests)
+
 rank_falls : (count g p : ℕ) → 0 < g → g ≤ count → (p ≡ 0) ⊎ ((g < p) × (p ≤ count)) → rank count p < rank count g
 rank_falls count g p l k o = grind (arith, nat_tests)
 

@@ -1,5 +1,5 @@
 -- The way up through groups whose parents have higher numbers.
-use Rattle.std.proofs.Common.{◌≡◌, ℕ, zero, suc, ◌+◌, ◌<◌, ◌≤◌, true, false, ◌||◌, eqb, ◌⊎◌, sym, refl, ap, ◌∙◌, inl, inr, ⊎_elim, arith}
+use Rattle.std.proofs.Common.{◌≡◌, ℕ, zero, suc, ◌+◌, ◌-◌, ◌<◌, ◌≤◌, true, false, cond, ◌||◌, eqb, ◌⊎◌, sym, refl, ap, ◌∙◌, inl, inr, ⊎_elim, arith}
 use Rattle.std.proofs.lemmas.Bool.Decides.{nat_tests}
 use Rattle.std.proofs.lemmas.Bool.{eq-eqb, ne_eqb, cases_eq}
 use Rattle.slips.specs.Groups.{up_to}
@@ -62,7 +62,11 @@ pub above_few : (p count g : ℕ) → (p ≡ 0) ⊎ ((g < p) × (p ≤ count)) �
 above_few p count g (inl z) = omega arith
 above_few p count g (inr u) = u.1
 
--- a step up from a group below the one that is sought
+-- a step up from a group below the one that is sought comes nearer to the end
+pub nearer : (p count g h : ℕ) → 0 < g → g < h → (p ≡ 0) ⊎ ((g < p) × (p ≤ count)) → cond (eqb p 0) 0 (h + 1 - p) < cond (eqb g 0) 0 (h + 1 - g)
+nearer p count g h l k o = grind (arith, nat_tests)
+
+-- and does not change whether the way up comes to that one
 pub climb_same : (above : ℕ → ℕ) (count : ℕ) → Rises above count → (g h : ℕ) → 0 < g → g ≤ count → g < h → up_to above count (above g) h ≡ up_to above count g h
 climb_same above count r g h l k m = let e = up_step above count r g h l k in let n = ne_eqb g h (λ q. omega arith) in grind (arith, nat_tests)
 

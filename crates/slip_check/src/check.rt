@@ -17,14 +17,14 @@ use slips::slip::*;
 fn check_priced<B: CostBook>(shaped: ShapedSlip<B>) -> Result<(), SlipFault>
     ensures { result_err result ≡ priced_fault (problem_of shaped.entry) (view_of shaped.entry) }
 {
-    shaped.check_pieces()?;
+    let cost = shaped.check_pieces()?;
     shaped.check_group_records()?;
     let priced = PricedSlip { shaped };
     priced.check_odd()?;
     priced.check_prices()?;
     priced.check_crossings()?;
     let total = u64::from(priced.shaped.slip.total);
-    unless(total == priced.shaped.mates_cost(), SlipFault::Total)
+    unless(total == cost, SlipFault::Total)
 }
 
 // The first test of a slip that fails.

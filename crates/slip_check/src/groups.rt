@@ -27,9 +27,11 @@ impl<'a, B: CostBook> ShapedSlip<'a, B> {
         ensures { result_err result ≡ records_fault (view_of self.now) }
     {
         let count = self.count();
+        // The records as a slice: a search reads where they stand once, and not again for each.
+        let groups: &[GroupRecord] = &self.slip.groups;
         unless(count <= GROUPS, SlipFault::Group(0))?;
         (count..GROUPS).try_for_each(|k| unless(
-            self.group(k) == BLANK_GROUP,
+            groups[k] == BLANK_GROUP,
             SlipFault::Group(k + 1),
         ))?;
         (0..count).try_for_each(|k| unless(self.is_good_group(k), SlipFault::Group(k + 1)))
