@@ -13,7 +13,12 @@ fn count_marked(marks: &[u8], mark: Mark) -> usize
     ensures { result ≡ marked (mark_byte mark) marks.now }
 {
     let byte = u8::from(mark);
-    marks.iter().filter(|m| **m == byte).count()
+    // A sum over all marks, which has no branch for one: a filter has, and most calls on a sheet count two marks so.
+    let mut n = 0;
+    for m in marks {
+        n += usize::from(*m == byte);
+    }
+    n
 }
 
 // Whether a byte is that of a mark.

@@ -1,13 +1,15 @@
 -- A tariff without a fault is a lawful table that prices its duties; one with a fault is refused for it.
-use Rattle.std.specs.Prelude.{◌≡◌, ℕ, ◌<◌, ◌≤◌, Bool, true, false, cond, ◌&&◌, List, length, is_some, IsNone, Some, None, Option, nat_le, nat_lt, refl}
+use Rattle.std.specs.Prelude.{◌≡◌, ℕ, ◌<◌, ◌≤◌, Bool, true, false, cond, ◌&&◌, List, length, is_some, IsNone, Some, None, Ok, Option, nat_le, nat_lt, slice_index_or, refl}
 use Rattle.std.proofs.Common.{sym, ap, subst, ◌∙◌, arith}
+use Rattle.std.proofs.lemmas.List.{get_or_read}
 use Rattle.std.proofs.lemmas.Bool.{leb-true, leb-false}
 use Rattle.std.proofs.lemmas.Bool.Decides.{nat_tests}
 use Rattle.books.specs.declared.fault.BookFault.{BookFault}
 use Rattle.books.specs.declared.fault.BookFault.TheVariants.{TooManyPieces}
 use Rattle.books.specs.Limits.{most_pieces}
 use Rattle.ranges.specs.First.{or_else}
-use Rattle.books.specs.Table.{Sound}
+use Rattle.books.specs.Table.{Table, Sound}
+use Rattle.books.specs.Asked.{asked}
 use Rattle.ranges.proofs.Options.{none_unless, none_some}
 use Rattle.ranges.proofs.First.{first_is}
 use Rattle.tariff_book.specs.declared.piece.Piece.{Piece}
@@ -23,6 +25,9 @@ use Rattle.tariff_book.specs.Costing.{either_order, equal_starts, pieces_duty, d
 -- the cost of two numbers, of which both are pieces or it is barred
 inside : (n i j : ℕ) (o : Option ℕ) → i < n → j < n → cond (nat_lt i n && nat_lt j n) o None ≡ o
 inside n i j o p q = grind (arith, nat_tests)
+
+asked_inside : (t : Table) (i j : ℕ) → i < t.count → j < t.count → asked t i j ≡ Ok (t.cost i j)
+asked_inside t i j p q = grind (arith, nat_tests)
 
 given_inside : (n i j : ℕ) (o : Option ℕ) (c : ℕ) → cond (nat_lt i n && nat_lt j n) o None ≡ Some c → (i < n) × (j < n) × (o ≡ Some c)
 given_inside n i j o c e = (grind (arith, nat_tests), grind (arith, nat_tests), grind (arith, nat_tests))
@@ -40,6 +45,13 @@ tariff_sound t ps e =
           let g = given_inside (length ps) i j (pieces_cost t (piece ps i) (piece ps j)) c h in
           pieces_low t (piece ps i) (piece ps j) c (terms_good t held.1) (good i g.0) (good j g.1) g.2;
     }
+
+-- what the table answers of two records that were read from the list
+pub read_asked : (t : Terms) (ps : List Piece) (i j : ℕ) (p q : Piece) → i < length ps → j < length ps → p ≡ slice_index_or ps i p → q ≡ slice_index_or ps j q → Ok (pieces_cost t p q) ≡ asked (tariff_table t ps) i j
+read_asked t ps i j p q a b x y =
+    let left = get_or_read ps i p a x _ in
+    let right = get_or_read ps j q b y _ in
+    ap Ok (ap (λ r. pieces_cost t r q) left ∙ ap (pieces_cost t (piece ps i)) right) ∙ sym (asked_inside (tariff_table t ps) i j a b ∙ ap Ok (inside (length ps) i j _ a b))
 
 -- the cost of two pieces, found in the table and asked of it
 table_duty : (t : Terms) (ps : List Piece) → IsNone (tariff_fault t ps) → (i j c : ℕ) → i < length ps → j < length ps → (tariff_table t ps).cost i j ≡ Some c → DutyOf t (piece ps i) (piece ps j) c

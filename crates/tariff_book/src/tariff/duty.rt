@@ -6,7 +6,6 @@ ghost use Rattle.tariff_book.specs.Duties.{duty_cost, pieces_cost};
 
 use crate::piece::Piece;
 use crate::terms::Terms;
-use std::cmp::Ordering;
 
 // What an early and a late piece cost; `None` where the break is too short or the spread too great.
 fn duty_cost(terms: Terms, early: Piece, late: Piece) -> Option<u32>
@@ -37,9 +36,13 @@ pub(super) fn pieces_cost(terms: Terms, one: Piece, other: Piece) -> Option<u32>
     requires good_other { GoodPiece other }
     ensures { result ≡ pieces_cost terms one other }
 {
-    match one.starts.cmp(&other.starts) {
-        Ordering::Less => duty_cost(terms, one, other),
-        Ordering::Greater => duty_cost(terms, other, one),
-        Ordering::Equal => None,
+    if one.starts == other.starts {
+        return None;
     }
+    let (early, late) = if one.starts < other.starts {
+        (one, other)
+    } else {
+        (other, one)
+    };
+    duty_cost(terms, early, late)
 }

@@ -1,4 +1,4 @@
-use Rattle.std.proofs.Common.{◌≡◌, [], replicate, sym, ap, ◌∙◌, rules}
+use Rattle.std.proofs.Common.{◌≡◌, [], length, replicate, sym, ap, ◌∙◌, rules}
 use Rattle.std.proofs.lemmas.Bool.{and_from, eq-eqb}
 use Rattle.queue.specs.Waiting.{waiting}
 use Rattle.sheet_register.specs.Calls.{nothing}
@@ -9,7 +9,7 @@ pub returns : goal.returns
 returns g c =
     let qs = waiting c.args.queue.now in
     let count = (g.B.CostBook.means c.args.book.now).count in
-    let many = c.if-marks-pieces.false ∙ c.count-pieces.ensures in
+    let many : length c.args.marks.now ≡ count = search rules in
     let none : qs ≡ [] = search rules in
     let ms = c.fill.ensures.after (λ y e. e) ∙ (λ i. replicate (many i) (c.into.ensures i)) in
     let kept = opened_kept c.args.number count _ c.fill.new.self qs c.count-pieces.ensures ms none in
