@@ -54,9 +54,12 @@ fn run_trial(heap: Global, dice: &mut Dice, family: u32) -> Result<Trial, TrialF
     })
 }
 
-pub(crate) fn compare_all(heap: Global) -> Result<Vec<Trial>, TrialFault> {
+// Each trial is counted as it ends, so that the memory that is wanted does not grow with their number.
+pub(crate) fn compare_all(heap: Global) -> Result<Tally, TrialFault> {
     let mut dice = Dice::new(2026);
-    (0..SLIPS)
-        .map(|k| run_trial(heap, &mut dice, k % 8))
-        .try_collect(heap)
+    let mut tally = Tally::new();
+    for k in 0..SLIPS {
+        tally.add(run_trial(heap, &mut dice, k % 8)?);
+    }
+    Ok(tally)
 }

@@ -36,10 +36,17 @@ fn set_single(slip: &mut Slip, live: &[usize], cut: usize) {
     }
 }
 
+// Whether two pieces are of two parts; a struck piece is of none. The independent check shares no such test with the maker of slips.
+fn joins_parts(slip: &Slip, u: usize, v: usize) -> bool {
+    let first = piece_record(slip, u).group;
+    let second = piece_record(slip, v).group;
+    first != 0 && second != 0 && first != second
+}
+
 // A small cost now and then, where two pieces are not of two parts.
 fn draw_cost(dice: &mut Dice, slip: &Slip, u: usize, v: usize) -> Option<u32> {
     let cost = dice.roll(30);
-    let allowed = dice.roll(3) != 0 && !are_apart(slip, u, v);
+    let allowed = dice.roll(3) != 0 && !joins_parts(slip, u, v);
     allowed.then_some(cost)
 }
 

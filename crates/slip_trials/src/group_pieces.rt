@@ -1,5 +1,4 @@
 // Which pieces are inside each group, and the prices between two pieces: written out group by group.
-use crate::look::*;
 use slips::slip::*;
 use std::alloc::{AllocError, Global};
 use std::iter;
@@ -72,12 +71,4 @@ pub(crate) fn between(groups: &[GroupPieces], u: usize, v: usize) -> i128 {
         .filter(|group| group.separates(u, v))
         .map(|group| i128::from(group.price))
         .fold(0, i128::wrapping_add)
-}
-
-// The prices of two pieces, and of the groups that hold exactly one of them. Slip and groups stay two parameters, here and where slips are made: a slip is
-// changed after its groups are worked out.
-pub(crate) fn prices_of(slip: &Slip, groups: &[GroupPieces], u: usize, v: usize) -> i128 {
-    let first = i128::from(piece_record(slip, u).price);
-    let second = i128::from(piece_record(slip, v).price);
-    between(groups, u, v).wrapping_add(first + second)
 }

@@ -1,12 +1,20 @@
 // The test of a gap slip.
 use crate::deal::*;
 use crate::look::*;
+use slips::slip::Slip;
 
 // Whether a piece has no mate and no price, and a part number that it may have.
 fn piece_stands(deal: &Deal, u: usize) -> bool {
     let record = piece_record(&deal.slip, u);
     let most = if is_live(deal, u) { 256 } else { 0 };
     record.mate == 65535 && record.price == 0 && record.group <= most
+}
+
+// Whether two pieces are of two parts; a piece that is cut is of none. The maker of slips has a test of its own.
+fn are_apart(slip: &Slip, u: usize, v: usize) -> bool {
+    let first = piece_record(slip, u).group;
+    let second = piece_record(slip, v).group;
+    first != 0 && second != 0 && first != second
 }
 
 // Whether a pair is not allowed, or does not join live pieces of two parts.

@@ -3,6 +3,15 @@ use crate::deal::*;
 use crate::group_pieces::*;
 use crate::judge::*;
 use crate::look::*;
+use slips::slip::Slip;
+
+// The prices of two pieces, and of the groups that hold exactly one of them. Slip and groups stay two parameters, here and where slips are made: a slip is
+// changed after its groups are worked out.
+fn prices_of(slip: &Slip, groups: &[GroupPieces], u: usize, v: usize) -> i128 {
+    let first = i128::from(piece_record(slip, u).price);
+    let second = i128::from(piece_record(slip, v).price);
+    between(groups, u, v).wrapping_add(first + second)
+}
 
 // Whether twice a pair's cost equals its prices, for mates, or is no less, for others; so for a pair that is not allowed.
 fn prices_stand(deal: &Deal, groups: &[GroupPieces], pair: &Pair) -> bool {
@@ -36,6 +45,16 @@ pub(crate) fn find_crossings(deal: &Deal, groups: &[GroupPieces]) -> Option<Find
         .filter(|group| count_leaving(deal, group) != 1)
         .map(|group| Finding::Crossing(usize::from(group.number)))
         .min()
+}
+
+// The sum of the costs of live mates.
+fn sum_of_costs(deal: &Deal) -> u64 {
+    deal.pairs
+        .iter()
+        .filter(|pair| is_pairing(deal, pair))
+        .filter_map(|pair| pair.cost)
+        .map(u64::from)
+        .fold(0, u64::saturating_add)
 }
 
 pub(crate) fn find_total(deal: &Deal) -> Option<Finding> {

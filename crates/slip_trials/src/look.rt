@@ -31,24 +31,7 @@ pub(crate) fn are_mates(slip: &Slip, u: usize, v: usize) -> bool {
     usize::from(piece_record(slip, u).mate) == v && usize::from(piece_record(slip, v).mate) == u
 }
 
-// Whether two pieces are of two parts; a piece that is cut is of none.
-pub(crate) fn are_apart(slip: &Slip, u: usize, v: usize) -> bool {
-    let first = piece_record(slip, u).group;
-    let second = piece_record(slip, v).group;
-    first != 0 && second != 0 && first != second
-}
-
 // Whether a pair is of live mates.
 pub(crate) fn is_pairing(deal: &Deal, pair: &Pair) -> bool {
     both_live(deal, pair) && are_mates(&deal.slip, pair.lower, pair.higher)
-}
-
-// The sum of the costs of live mates.
-pub(crate) fn sum_of_costs(deal: &Deal) -> u64 {
-    deal.pairs
-        .iter()
-        .filter(|pair| is_pairing(deal, pair))
-        .filter_map(|pair| pair.cost)
-        .map(u64::from)
-        .fold(0, u64::saturating_add)
 }

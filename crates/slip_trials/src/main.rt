@@ -22,6 +22,6 @@ mod wild_deal;
 use fault::*;
 
 fn main(rt: HostRuntime) -> Result<(), TrialFault> {
-    let trials = compare::compare_all(rt.alloc())?;
-    tally::show(&rt, &trials)
+    let tally = compare::compare_all(rt.alloc())?;
+    tally::show(&rt, &tally)
 }

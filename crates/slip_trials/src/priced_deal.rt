@@ -121,7 +121,10 @@ fn join_all(dice: &mut Dice, slip: &mut Slip, groups: &[GroupPieces], order: &[u
 
 // The least cost at which two pieces have a margin of 0 or 1; 0 where any cost has more.
 fn least_cost(slip: &Slip, groups: &[GroupPieces], u: usize, v: usize) -> u128 {
-    prices_of(slip, groups, u, v)
+    let first = i128::from(piece_record(slip, u).price);
+    let second = i128::from(piece_record(slip, v).price);
+    between(groups, u, v)
+        .wrapping_add(first + second)
         .max(0)
         .unsigned_abs()
         .div_ceil(2)
@@ -148,6 +151,15 @@ fn fit_cost(
     u32::try_from(cost).ok().filter(|cost| *cost <= 1_000_000)
 }
 
+// The sum of the mates' costs. A struck piece has no mate, so that no mark is read: the test of a live piece is the independent check's alone.
+fn mates_total(slip: &Slip, pairs: &[Pair]) -> u32 {
+    pairs
+        .iter()
+        .filter(|pair| are_mates(slip, pair.lower, pair.higher))
+        .filter_map(|pair| pair.cost)
+        .fold(0, u32::saturating_add)
+}
+
 // A priced slip around groups that are drawn for so many live pieces.
 pub(crate) fn deal_priced<F: FnOnce(&mut Dice, usize) -> Shape>(
     heap: Global,
@@ -167,12 +179,11 @@ pub(crate) fn deal_priced<F: FnOnce(&mut Dice, usize) -> Shape>(
     let groups = groups_of(heap, &slip)?;
     join_all(dice, &mut slip, &groups, &order);
     let pairs = all_pairs(heap, count, |u, v| fit_cost(dice, &slip, &groups, u, v))?;
-    let mut deal = Deal {
+    slip.total = mates_total(&slip, &pairs);
+    Ok(Deal {
         count,
         pairs,
         marks,
         slip,
-    };
-    deal.slip.total = u32::try_from(sum_of_costs(&deal)).unwrap_or(u32::MAX);
-    Ok(deal)
+    })
 }

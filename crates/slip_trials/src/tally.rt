@@ -36,61 +36,91 @@ fn named_by(fault: SlipFault) -> usize {
     }
 }
 
-fn show_passes(rt: &impl Print, trials: &[Trial]) -> Result<(), TrialFault> {
-    let priced = trials
-        .iter()
-        .filter(|trial| trial.passes() && trial.kind == 1)
-        .count();
-    let gapped = trials
-        .iter()
-        .filter(|trial| trial.passes() && trial.kind != 1)
-        .count();
-    println!(rt; "  passed, priced: {priced}")?;
-    println!(rt; "  passed, gap: {gapped}")?;
-    Ok(())
+// Each refusal's number, by which the output tells it, and its name there.
+const REFUSALS: [(u8, &str); 7] = [
+    (17, "shape"),
+    (18, "piece"),
+    (19, "group"),
+    (20, "prices"),
+    (21, "crossing"),
+    (22, "total"),
+    (23, "gap"),
+];
+
+#[derive(Drop)]
+pub struct Tally {
+    compared: u32,
+    agreed: u32,
+    // The number of the first slip, from 1, on which they did not agree.
+    first: Option<u32>,
+    priced: u32,
+    gapped: u32,
+    // How often each refusal came.
+    refused: [u32; 7],
+    // The sum of the pieces and groups that were named.
+    named: usize,
 }
 
-// The output tells each refusal by its number.
-fn show_refusals(rt: &impl Print, trials: &[Trial]) -> Result<(), TrialFault> {
-    for (number, name) in [
-        (17, "shape"),
-        (18, "piece"),
-        (19, "group"),
-        (20, "prices"),
-        (21, "crossing"),
-        (22, "total"),
-        (23, "gap"),
-    ] {
-        let times = trials
-            .iter()
-            .filter(|trial| trial.is_refused(number))
-            .count();
+impl Tally {
+    pub fn new() -> Tally {
+        Tally {
+            compared: 0,
+            agreed: 0,
+            first: None,
+            priced: 0,
+            gapped: 0,
+            refused: [0; 7],
+            named: 0,
+        }
+    }
+
+    fn add_answer(&mut self, trial: &Trial) {
+        if trial.passes() && trial.kind == 1 {
+            self.priced = self.priced.saturating_add(1);
+        } else if trial.passes() {
+            self.gapped = self.gapped.saturating_add(1);
+        }
+        for (times, (number, _)) in self.refused.iter_mut().zip(REFUSALS) {
+            *times = times.saturating_add(u32::from(trial.is_refused(number)));
+        }
+        self.named = self.named.saturating_add(trial.answer.map_or(0, named_by));
+    }
+
+    // Counts a trial.
+    pub fn add(&mut self, trial: Trial) {
+        self.compared = self.compared.saturating_add(1);
+        if trial.agrees() {
+            self.agreed = self.agreed.saturating_add(1);
+        } else if self.first.is_none() {
+            self.first = Some(self.compared);
+        }
+        self.add_answer(&trial);
+    }
+}
+
+fn show_answers(rt: &impl Print, tally: &Tally) -> Result<(), TrialFault> {
+    let priced = tally.priced;
+    let gapped = tally.gapped;
+    let named = tally.named;
+    println!(rt; "  passed, priced: {priced}")?;
+    println!(rt; "  passed, gap: {gapped}")?;
+    for (times, (number, name)) in tally.refused.iter().zip(REFUSALS) {
         println!(rt; "  refused {number}, {name}: {times}")?;
     }
-    let named = trials
-        .iter()
-        .filter_map(|trial| trial.answer)
-        .map(named_by)
-        .fold(0, usize::saturating_add);
     println!(rt; "  sum of the pieces and groups named: {named}")?;
     Ok(())
 }
 
-pub(crate) fn show(rt: &impl Print, trials: &[Trial]) -> Result<(), TrialFault> {
-    let compared = trials.len();
-    let agreed = trials.iter().filter(|trial| trial.agrees()).count();
+pub(crate) fn show(rt: &impl Print, tally: &Tally) -> Result<(), TrialFault> {
+    let compared = tally.compared;
+    let agreed = tally.agreed;
     println!(rt; "Slips judged by two checks")?;
     println!(rt; "  compared: {compared}")?;
     println!(rt; "  agreed: {agreed}")?;
-    match trials
-        .iter()
-        .zip(1_usize..)
-        .find(|(trial, _)| !trial.agrees())
-    {
-        Some((_, number)) => println!(rt; "  first disagreement: slip {number}")?,
+    match tally.first {
+        Some(number) => println!(rt; "  first disagreement: slip {number}")?,
         None => println!(rt; "  first disagreement: none")?,
     }
     println!(rt; "Answers")?;
-    show_passes(rt, trials)?;
-    show_refusals(rt, trials)
+    show_answers(rt, tally)
 }

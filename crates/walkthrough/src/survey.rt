@@ -8,13 +8,18 @@ use crate::show::*;
 use books::book::CostBook;
 use list_book::list::ListBook;
 
+// Whether a book answers the question for two pieces with a cost.
+fn allows<B: CostBook>(book: &B, i: usize, j: usize) -> bool
+    ensures { result ≡ Rattle.walkthrough.specs.Survey.allows (B.CostBook.means book.now) i j }
+{
+    matches!(book.cost(i, j), Ok(Some(_)))
+}
+
 // How many pieces below `count` a piece may be paired with.
 fn count_row<B: CostBook>(book: &B, i: usize, count: usize) -> usize
     ensures { result ≡ row_allowed (B.CostBook.means book.now) i count }
 {
-    (0..count)
-        .filter(|&j| book.pair_cost(i, j).is_some())
-        .count()
+    (0..count).filter(|&j| allows(book, i, j)).count()
 }
 
 // How many questions for two pieces, in either order, a book answers with a cost.
