@@ -1,11 +1,12 @@
 -- What a surcharge adds, end by end, and that a surcharge layer keeps the law of a book.
-use Rattle.std.specs.Prelude.{◌≡◌, ℕ, ◌+◌, ◌*◌, ◌≤◌, min, Bool, true, false, cond, List, Some, None, Option, ◌≢◌, slice_set, refl}
-use Rattle.std.proofs.Common.{ap, ◌∙◌, arith}
+use Rattle.std.specs.Prelude.{◌≡◌, ℕ, ◌+◌, ◌*◌, ◌≤◌, min, Bool, true, false, cond, List, Some, None, Ok, Option, ◌≢◌, slice_set, refl}
+use Rattle.std.proofs.Common.{ap, ◌∙◌, arith, mul-le-mul}
 use Rattle.std.proofs.lemmas.List.{get_or-set_other}
 use Rattle.std.proofs.lemmas.Bool.Decides.{nat_tests}
 use Rattle.std.specs.Option.{option_map}
 use Rattle.books.specs.Limits.{most_cost}
 use Rattle.books.specs.Table.{Table, Sound}
+use Rattle.books.specs.Asked.{asked}
 use Rattle.book_layers.specs.Surcharges.{marked, ends_marked, surcharged, Surcharges, PieceOnly}
 
 -- a cost with an amount on top
@@ -61,3 +62,11 @@ piece_only t u amount after ms ns p ok b e f m = λ x y n o.
     let l = mark_other ms ns p y ok b m o in
     let same : after * ends_marked ns x y ≡ amount * ends_marked ms x y = cc in
     ap (λ w. dearer w (u.cost x y)) same ∙ ap (λ v. dearer (amount * ends_marked ms x y) (v.cost x y)) e
+
+-- a cost that a book answers is within the limit
+pub asked_low : (t : Table) (i j c : ℕ) (o : Option ℕ) → Sound t → o ≡ Some c → Ok o ≡ asked t i j → c ≤ most_cost
+asked_low t i j c o s is e = s.low i j c (grind (arith, nat_tests))
+
+-- so that its sum with what the ends add fits
+pub sum_low : (c amount ends : ℕ) → c ≤ most_cost → amount ≤ most_cost → ends ≤ 2 → c + amount * ends ≤ 3000000
+sum_low c amount ends h k l = let p = mul-le-mul k l in omega arith

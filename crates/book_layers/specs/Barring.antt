@@ -1,14 +1,23 @@
 -- How a row of pairs changes as one pair comes or goes, and that a bar layer keeps the law of a book.
-use Rattle.std.specs.Prelude.{◌≡◌, ℕ, zero, suc, ◌+◌, ◌<◌, Bool, true, false, cond, not, ◌&&◌, ◌||◌, List, [], ◌∷◌, ◌++◌, length, Some, None, Option, ◌==◌, refl}
+use Rattle.std.specs.Prelude.{◌≡◌, ℕ, zero, suc, ◌+◌, ◌<◌, ◌≤◌, Bool, true, false, cond, not, ◌&&◌, ◌||◌, List, [], ◌∷◌, ◌++◌, length, drop, Some, None, Option, ◌==◌, refl}
 use Rattle.std.proofs.Common.{sym, ap, ◌∙◌, arith}
+use Rattle.std.proofs.lemmas.List.{at_drop_more, at_drop_all, length_push}
 use Rattle.std.proofs.lemmas.List.Edits.{length-remove}
-use Rattle.std.proofs.lemmas.Bool.{and_parts, eqb-true, cond-false, and_left, not_from_true}
+use Rattle.std.proofs.lemmas.Bool.{and_parts, eqb-true, cond-true, cond-false, or_left, and_left, not_from_true}
 use Rattle.std.proofs.lemmas.Bool.Decides.{nat_tests}
 use Rattle.std.specs.List.{remove}
 use Rattle.books.specs.Table.{Table, Sound}
 use Rattle.book_layers.specs.declared.pair.Pair.{Pair}
 use Rattle.book_layers.specs.Pairs.{pair_of, pair_at, same_pair, is_pair, has, held, apart}
-use Rattle.book_layers.specs.Bars.{bar_table, same_two, Drops, Other, LiftsOnly}
+use Rattle.book_layers.specs.Bars.{bar_table, same_two, Adds, Drops, Other, BarsOnly, LiftsOnly}
+
+-- a search that comes to place k
+pub held_more : (ps : List Pair) (k i j : ℕ) → k < length ps → held (drop k ps) i j ≡ (is_pair (pair_at ps k) i j || held (drop (k + 1) ps) i j)
+held_more ps k i j h = at_drop_more (λ xs. held xs i j) ps k (record { lower = 0; higher = 0 }) h
+
+-- a search that has passed every place
+pub held_all : (ps : List Pair) (k i j : ℕ) → length ps ≤ k → held (drop k ps) i j ≡ false
+held_all ps k i j h = at_drop_all (λ xs. held xs i j) ps k h
 
 -- a row with one pair more
 has_push : (ps : List Pair) (p q : Pair) → has (ps ++ p ∷ []) q ≡ (same_pair q p || has ps q)
@@ -64,6 +73,13 @@ apart_push (p ∷ ps) q n a =
     let more = has_push ps q p in
     grind (arith, nat_tests)
 
+-- one pair more, which the row did not have
+pub adds_push : (ps : List Pair) (i j : ℕ) → held ps i j ≡ false → Adds ps (ps ++ pair_of i j ∷ []) i j
+adds_push ps i j n = record {
+  holds = λ a b. has_push ps (pair_of i j) (pair_of a b);
+  number = length_push ps (pair_of i j) ∙ sym (cond-false (held ps i j) (length ps) (length ps + 1) n);
+}
+
 -- one place less, at which the pair stood
 pub drops_removed : (ps : List Pair) (k i j : ℕ) → k < length ps → is_pair (pair_at ps k) i j ≡ true → apart ps ≡ true → Drops ps (remove ps k) i j
 drops_removed ps k i j h is a =
@@ -83,6 +99,14 @@ turned i j = grind (arith, nat_tests)
 
 elsewhere : (a b i j : ℕ) → Other a b i j → same_two a b i j ≡ false
 elsewhere a b i j o = grind (arith, nat_tests)
+
+-- what a bar changes
+pub adds_law : (t : Table) (ps qs : List Pair) (i j : ℕ) → Adds ps qs i j → BarsOnly (bar_table t ps) (bar_table t qs) i j
+adds_law t ps qs i j m = record {
+  count = refl;
+  here = (cond-true _ _ _ (m.holds i j ∙ or_left _ _ (here i j)), cond-true _ _ _ (m.holds j i ∙ or_left _ _ (turned i j)));
+  elsewhere = λ a b o. let e = elsewhere a b i j o in let h = m.holds a b in grind (arith, nat_tests);
+}
 
 -- what a lifted bar changes
 pub drops_law : (t : Table) (ps qs : List Pair) (i j : ℕ) → Drops ps qs i j → LiftsOnly t (bar_table t ps) (bar_table t qs) i j
