@@ -1,7 +1,7 @@
 -- Facts on marks and on tests of each of a list.
-use Rattle.std.proofs.Common.{◌≡◌, ℕ, zero, suc, ◌+◌, ◌<◌, ◌≤◌, Bool, true, false, cond, eqb, List, [], ◌∷◌, ◌++◌, length, take, set, replicate, sym, refl, ap, ◌∙◌, arith, length-take}
+use Rattle.std.proofs.Common.{◌≡◌, ℕ, zero, suc, ◌+◌, ◌<◌, Bool, true, false, cond, eqb, List, [], ◌∷◌, ◌++◌, length, set, replicate, sym, refl, ap, ◌∙◌, arith}
 use Rattle.std.proofs.lemmas.List.Folds.{list_all-append}
-use Rattle.std.proofs.lemmas.List.Sums.{sum_by-cons, sum_by_more, sum_by-set, count_by-le-length}
+use Rattle.std.proofs.lemmas.List.Sums.{sum_by-cons, sum_by-set}
 use Rattle.std.proofs.lemmas.Bool.{and_from, and_parts, eq-eqb}
 use Rattle.sheet_register.specs.Memory.{free, mark, marked, each}
 
@@ -16,16 +16,6 @@ each_push p xs x e f = list_all-append p xs (x ∷ []) ∙ and_from _ _ e (and_f
 pub each_replicate : {X : Type 0} (p : X → Bool) (n : ℕ) (x : X) → p x ≡ true → each p (replicate n x) ≡ true
 each_replicate p zero x e = refl
 each_replicate p (suc n) x e = and_from _ _ e (each_replicate p n x e)
-
--- one mark more in a count
-pub counted_more : (m : ℕ) (ms : List ℕ) (i n k : ℕ) → i < length ms → n ≡ marked m (take i ms) → k ≡ cond (eqb (mark ms i) m) 1 0 → n + k ≡ marked m (take (i + 1) ms)
-counted_more m ms i n k l e f = let s = sum_by_more (λ x. cond (eqb x m) 1 0) ms i free l in omega arith
-
-pub counted_fits : (m : ℕ) (ms : List ℕ) (i n k : ℕ) → i < length ms → n ≡ marked m (take i ms) → k ≡ cond (eqb (mark ms i) m) 1 0 → n + k ≤ length ms
-counted_fits m ms i n k l e f =
-    let s = counted_more m ms i n k l e f in
-    let b = count_by-le-length (λ x. eqb x m) (take (i + 1) ms) in
-    omega (arith, length-take (i + 1) ms)
 
 -- a write of x over the mark of a piece, in the count of a mark
 pub marked_set : (m : ℕ) (ms : List ℕ) (p x : ℕ) (a b : Bool) → p < length ms → eqb (mark ms p) m ≡ a → eqb x m ≡ b → marked m (set ms p x) + cond a 1 0 ≡ marked m ms + cond b 1 0
